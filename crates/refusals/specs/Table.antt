@@ -1,0 +1,28 @@
+-- "Order: 1 to 7, 12, then for each pair 8, 9, 11, 10; the first that applies" (document 01, Who can be turned away).
+-- Every layout and every entry cites this file: its refusals are a table in that order. Definitions only; nothing is assumed.
+use Prim.Native.Nat.{ℕ}
+use mathlib.Core.Bool.{Bool, true, false}
+use mathlib.Core.List.{List, [], _∷_}
+
+-- One of two values, by a test.
+abbrev pub pick {ℓ} : {A : Type ℓ} → Bool → A → A → A
+pick true a b = a
+pick false a b = b
+
+-- A line of the list "Who can be turned away": a number, and the condition under which it is given.
+pub record Refusal : Type 0 where
+  pub number : ℕ
+  pub applies : Bool
+
+abbrev pub refusal : ℕ → Bool → Refusal
+refusal number applies = record { number = number; applies = applies }
+
+-- What a reading comes to: it passes with a value, or gets its number.
+pub data Answer (A : Type 0) : Type 0 where
+  passes : A → Answer A
+  refused : ℕ → Answer A
+
+-- "The first that applies"; where none does, the value passes.
+unfoldable pub firstOf : {A : Type 0} → List Refusal → A → Answer A
+firstOf [] value = passes value
+firstOf (r ∷ rest) value = pick (r .applies) (refused (r .number)) (firstOf rest value)
