@@ -1,0 +1,4 @@
+pub mod FieldLaws
+pub mod SignLaws
+pub mod PutLaws
+pub mod LayoutLaws

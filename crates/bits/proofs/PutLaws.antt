@@ -1,0 +1,49 @@
+-- Laws of bytes written into a buffer.
+use Prim.Native.Nat.{ℕ, zero, suc, _+_, _/_, _%_, _≤_, _<_}
+use mathlib.Core.Path.{_≡_, refl, sym, ap, ap₂, _∙_}
+use mathlib.Core.List.{List, [], _∷_, _++_, append-assoc}
+use native.Mathlib.Nat.{add-zero, add-suc}
+use native.Mathlib.Omega.{arith}
+use lib.ListN.{length, take, drop, set, length-append, length-drop, length-set, take-append-drop}
+use lib.Seq.{take-set-le, drop-cons, drop-set-lt, getD-set-same, take-at, drop-drop, length-take-le, drop-append-add}
+use Rattle.bits.specs.Layout.{bytesOf, put}
+
+pub length-bytesOf : (n x : ℕ) → length (bytesOf n x) ≡ n
+unfolding bytesOf
+length-bytesOf zero x = refl
+length-bytesOf (suc n) x = length-append (bytesOf n (x / 256)) (x % 256 ∷ []) ∙ rw (length-bytesOf n (x / 256)) (omega arith)
+
+pub put-nothing : (buffer : List ℕ) (at : ℕ) → put buffer at [] ≡ buffer
+unfolding put
+put-nothing buffer at = rw (add-zero at) (take-append-drop at buffer)
+
+pub length-put : (buffer : List ℕ) (at : ℕ) (bytes : List ℕ) → at + length bytes ≤ length buffer → length (put buffer at bytes) ≡ length buffer
+unfolding put
+length-put buffer at bytes h =
+    simp (length-append, length-drop, length-take-le at buffer (omega arith)) (omega arith)
+
+-- A byte stored just behind the place of some bytes, and then those: all of them written.
+pub put-store : (buffer : List ℕ) (at : ℕ) (bytes : List ℕ) (b : ℕ) → at + length bytes < length buffer
+    → put (set buffer (at + length bytes) b) at bytes ≡ put buffer at (bytes ++ (b ∷ []))
+unfolding put
+put-store buffer at bytes b h =
+    let place = at + length bytes in
+    let stored = set buffer place b in
+    let n : length (bytes ++ (b ∷ [])) ≡ suc (length bytes) = length-append bytes (b ∷ []) ∙ omega arith in
+    let rest : drop place stored ≡ b ∷ drop (suc place) buffer =
+    drop-cons stored place 0 (rw (length-set buffer place b) h) ∙ ap₂ (λ (x : ℕ) (l : List ℕ). x ∷ l) (getD-set-same buffer place b 0 h) (drop-set-lt (suc place) buffer place b (omega arith)) in
+    rw (take-set-le at buffer place b (omega arith), rest, n, add-suc at (length bytes), append-assoc bytes (b ∷ []) (drop (suc place) buffer))
+
+-- Bytes written behind others are all of them written.
+pub put-behind : (buffer : List ℕ) (at : ℕ) (front back : List ℕ) → at + length front ≤ length buffer
+    → put (put buffer at front) (at + length front) back ≡ put buffer at (front ++ back)
+unfolding put
+put-behind buffer at front back h =
+    let place = at + length front in
+    let head = take at buffer ++ front in
+    let long : length head ≡ place = length-append (take at buffer) front ∙ rw (length-take-le at buffer (omega arith)) in
+    let whole : take at buffer ++ (front ++ drop place buffer) ≡ head ++ drop place buffer = sym (append-assoc (take at buffer) front (drop place buffer)) in
+    let back-at : place + length back ≡ at + length (front ++ back) = rw (length-append front back) (omega arith) in
+    let rest : drop (place + length back) (head ++ drop place buffer) ≡ drop (at + length (front ++ back)) buffer =
+    ap (λ (k : ℕ). drop (k + length back) (head ++ drop place buffer)) (sym long) ∙ drop-append-add head (drop place buffer) (length back) ∙ drop-drop (length back) place buffer ∙ ap (λ (k : ℕ). drop k buffer) back-at in
+    rw (whole, take-at head (drop place buffer) place long, rest) (simp append-assoc)

@@ -1,0 +1,70 @@
+-- Laws of whole numbers with a sign, as the machine holds them, and of tests between them.
+use Prim.Native.Nat.{ℕ, zero, suc, _+_, _-_, _*_, _/_, _^_, _≤_, _<_}
+use mathlib.Core.Path.{_≡_, refl, sym, ap, ap₂, _∙_}
+use mathlib.Core.Bool.{Bool, true, false, not}
+use native.Mathlib.Omega.{arith}
+use borrow.Author.Tests.{ltb-true, ltb-false, lt-leb, le-leb, lt-ltb, le-ltb}
+use lib.IntN.{ℤ, pos, negsuc, _-ℤ_}
+use lib.Dec.{ltb, leb}
+use lib.Pow.{ones-split, ones-lt, high}
+use lib.Signed.{ltZ, leZ}
+use mir.Facts.{toZ-ofZ}
+use mir.Syntax.{w64}
+use mir.Val.{SFits, toZ, ofZ}
+use Rattle.bits.specs.Field.{twos}
+
+pub minus-one-minus : (m : ℕ) → negsuc 0 -ℤ pos m ≡ negsuc m
+minus-one-minus zero = refl
+minus-one-minus (suc m) = ap negsuc (omega arith)
+
+-- A number is at most another exactly where the other isn't below it.
+pub leb-is-not-ltb : (a b : ℕ) → leb b a ≡ not (ltb a b)
+leb-is-not-ltb a b = by-test (ltb a b) refl
+  where
+    by-test : (t : Bool) → ltb a b ≡ t → leb b a ≡ not t
+    by-test true e = lt-leb b a (ltb-true a b e)
+    by-test false e = le-leb b a (ltb-false a b e)
+
+pub leZ-is-not-ltZ : (a b : ℤ) → leZ b a ≡ not (ltZ a b)
+leZ-is-not-ltZ (pos a) (pos b) = leb-is-not-ltb a b
+leZ-is-not-ltZ (pos a) (negsuc b) = refl
+leZ-is-not-ltZ (negsuc a) (pos b) = refl
+leZ-is-not-ltZ (negsuc a) (negsuc b) = leb-is-not-ltb b a
+
+-- What a test `a < b` of the machine says of the numbers that it holds, where it holds and where it doesn't.
+module _ {a b : ℤ} (fa : SFits w64 a) (fb : SFits w64 b) where
+  test-is : {t : Bool} → ltZ (toZ w64 (ofZ w64 a)) (toZ w64 (ofZ w64 b)) ≡ t → leZ b a ≡ not t
+  test-is e = leZ-is-not-ltZ a b ∙ ap not (sym (ap₂ ltZ (toZ-ofZ fa) (toZ-ofZ fb)) ∙ e)
+
+  pub above : ltZ (toZ w64 (ofZ w64 a)) (toZ w64 (ofZ w64 b)) ≡ true → leZ b a ≡ false
+  above e = test-is e
+
+  pub not-above : ltZ (toZ w64 (ofZ w64 a)) (toZ w64 (ofZ w64 b)) ≡ false → leZ b a ≡ true
+  not-above e = test-is e
+
+-- The greatest number of some width is all ones of 64 bits, shifted down.
+pub ones-shifted : (w : ℕ) → w ≤ 64 → 18446744073709551615 / 2 ^ (64 - w) ≡ 2 ^ w - 1
+ones-shifted w h =
+    let both : 64 ≡ w + (64 - w) = omega arith in
+    let split : 18446744073709551615 ≡ (2 ^ w - 1) * 2 ^ (64 - w) + (2 ^ (64 - w) - 1) = ap (λ (k : ℕ). 2 ^ k - 1) both ∙ ones-split w (64 - w) in
+    ap (λ (n : ℕ). n / 2 ^ (64 - w)) split ∙ high (2 ^ w - 1) (64 - w) (ones-lt (64 - w))
+
+half : (w : ℕ) → 1 ≤ w → 2 ^ w ≡ 2 * 2 ^ (w - 1)
+half (suc n) h = rw (sub-one-suc n) (omega arith)
+  where
+    sub-one-suc : (n : ℕ) → suc n - 1 ≡ n
+    sub-one-suc n = omega arith
+
+-- Bits whose distance to the greatest number is not the lesser stand for themselves,
+pub twos-low : (w x : ℕ) → 1 ≤ w → x < 2 ^ w → x ≤ 2 ^ w - 1 - x → (twos w x ≡ pos x) × (x < 2 ^ (w - 1))
+unfolding twos
+twos-low w x h b l =
+    let small : x < 2 ^ (w - 1) = omega (arith, half w h) in
+    (rw (lt-ltb x (2 ^ (w - 1)) small), small)
+
+-- and other bits for the number that lies that distance below minus one.
+pub twos-high : (w x : ℕ) → 1 ≤ w → x < 2 ^ w → 2 ^ w - 1 - x < x → (twos w x ≡ negsuc (2 ^ w - 1 - x)) × (2 ^ w - 1 - x < 2 ^ (w - 1))
+unfolding twos
+twos-high w x h b l =
+    let large : 2 ^ (w - 1) ≤ x = omega (arith, half w h) in
+    (rw (le-ltb x (2 ^ (w - 1)) large), omega (arith, half w h))

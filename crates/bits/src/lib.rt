@@ -1,0 +1,147 @@
+// Fields of bits in bytes: their readers, and the writer of a number into a lent buffer.
+// Any bytes of any length are read: a bit past their end is 0.
+ghost use mathlib.Core.Path.{_≡_};
+ghost use Prim.Native.Nat.{_+_, _-_, _*_, _^_, _≤_, _<_};
+ghost use lib.IntN.{negsuc};
+ghost use lib.ListN.{length, getD};
+ghost use Rattle.bits.specs.Field.{field, twos, unsignedOf, signedOf};
+ghost use Rattle.bits.specs.Layout.{bytesOf, put};
+
+// What the reader of an unsigned field answers: the number, or that it lies outside its bounds.
+pub enum Unsigned {
+    Value(u64),
+    OutOfRange,
+}
+
+// The same for a signed field.
+pub enum Signed {
+    Value(i64),
+    OutOfRange,
+}
+
+fn wide(b: u8) -> u64
+    ensures { λ r. ⌜ r ≡ b ⌝ }
+    ensures byte { λ r. ⌜ r < 256 ⌝ }
+{
+    b as u64
+}
+
+fn byte_at(s: &[u8], i: usize) -> u64
+    ensures { λ r. ⌜ r ≡ getD (now (s .entry)) i 0 ⌝ }
+    ensures byte { λ r. ⌜ r < 256 ⌝ }
+{
+    if i < s.len() {
+        return wide(s[i]);
+    }
+    0
+}
+
+// The number that the bytes from `from` up to `to` make.
+fn number(s: &[u8], from: usize, to: usize) -> u64
+    requires { ⌜ (from ≤ to) × (to ≤ from + 8) ⌝ }
+    ensures { λ r. ⌜ r ≡ field (now (s .entry)) (8 * from) (8 * (to - from)) ⌝ }
+{
+    let mut x: u64 = 0;
+    let mut i = from;
+    while i < to {
+        x = x * 256 + byte_at(s, i);
+        i += 1;
+    }
+    x
+}
+
+// A field that lies in at most eight bytes: their number, cut at both ends.
+fn in_a_word(s: &[u8], at: usize, width: usize) -> u64
+    requires { ⌜ (width ≤ 56) × (at < 2 ^ 60) ⌝ }
+    ensures { λ r. ⌜ r ≡ field (now (s .entry)) at width ⌝ }
+{
+    let from = at / 8;
+    let to = (at + width + 7) / 8;
+    let after = 8 * to - at - width;
+    let word = number(s, from, to);
+    let upto = word >> after;
+    let high = 1 << width;
+    upto % high
+}
+
+// Any field of up to 64 bits. Read by bytes, not by bits.
+pub fn read(s: &[u8], at: usize, width: usize) -> u64
+    requires { ⌜ (width ≤ 64) × (at < 2 ^ 59) ⌝ }
+    ensures { λ r. ⌜ r ≡ field (now (s .entry)) at width ⌝ }
+{
+    if width <= 56 {
+        return in_a_word(s, at, width);
+    }
+    let front = width - 32;
+    let high = in_a_word(s, at, front);
+    let low = in_a_word(s, at + front, 32);
+    high * 4294967296 + low
+}
+
+// A field within its bounds, or that it lies outside them.
+pub fn read_unsigned(s: &[u8], at: usize, width: usize, least: u64, most: u64) -> Unsigned
+    requires { ⌜ (width ≤ 64) × (at < 2 ^ 59) ⌝ }
+    ensures { λ r. ⌜ r ≡ unsignedOf (now (s .entry)) at width least most ⌝ }
+{
+    let x = read(s, at, width);
+    if x < least {
+        return Unsigned::OutOfRange;
+    }
+    if most < x {
+        return Unsigned::OutOfRange;
+    }
+    Unsigned::Value(x)
+}
+
+// The negative number that is m + 1 below zero.
+fn below_zero(m: u64) -> i64
+    requires { ⌜ m < 2 ^ 63 ⌝ }
+    ensures { λ r. ⌜ r ≡ negsuc m ⌝ }
+{
+    let a = m as i64;
+    -1 - a
+}
+
+// The whole number that bits stand for in two's complement: below half of the width's numbers it is the bits' own.
+fn whole_number(x: u64, width: usize) -> i64
+    requires { ⌜ (1 ≤ width) × (width ≤ 64) × (x < 2 ^ width) ⌝ }
+    ensures { λ r. ⌜ r ≡ twos width x ⌝ }
+{
+    let greatest: u64 = 18446744073709551615 >> (64 - width);
+    let rest = greatest - x;
+    if x <= rest {
+        return x as i64;
+    }
+    below_zero(rest)
+}
+
+// A signed field within its bounds, or that it lies outside them.
+pub fn read_signed(s: &[u8], at: usize, width: usize, least: i64, most: i64) -> Signed
+    requires { ⌜ (1 ≤ width) × (width ≤ 64) × (at < 2 ^ 59) ⌝ }
+    ensures { λ r. ⌜ r ≡ signedOf (now (s .entry)) at width least most ⌝ }
+{
+    let x = read(s, at, width);
+    let z = whole_number(x, width);
+    if z < least {
+        return Signed::OutOfRange;
+    }
+    if most < z {
+        return Signed::OutOfRange;
+    }
+    Signed::Value(z)
+}
+
+// Writes the last `count` bytes of a number at a place of a lent buffer.
+pub fn write(buffer: &mut [u8], at: usize, count: usize, x: u64)
+    requires { ⌜ at + count ≤ length (now buffer) ⌝ }
+    ensures { λ _. ⌜ now (buffer .exit) ≡ put (now (buffer .entry)) at (bytesOf count x) ⌝ }
+{
+    let mut left = count;
+    let mut rest = x;
+    while 0 < left {
+        left -= 1;
+        let place = at + left;
+        buffer[place] = (rest % 256) as u8;
+        rest = rest / 256;
+    }
+}
