@@ -1,9 +1,11 @@
 // The kinds of quantities. A sum or a difference stays in its kind; only a modulus leads from strain to stress, and only an expansion from
 // temperature to strain.
 ghost use mathlib.Core.Path.{_≡_};
-ghost use Prim.Native.Nat.{_+_, _-_, _*_, _^_, _≤_, _<_};
+ghost use Prim.Native.Nat.{_+_, _-_, _*_, _/_, _^_, _≤_, _<_};
 ghost use lib.Dec.{leb, ltb};
-ghost use Rattle.units.specs.Kinds.{magnitude};
+ghost use lib.IntN.{pos, natAbs, _+ℤ_, _-ℤ_, _*ℤ_};
+ghost use Rattle.units.specs.Kinds.{nano, grain, tenths, length, magnitude};
+ghost use Rattle.units.specs.Signs.{isNegative, withSign};
 
 // Strain, in 10⁻⁹.
 pub struct Nano(pub i64);
@@ -25,6 +27,111 @@ pub struct Modulus(pub u64);
 
 // Thermal expansion, in nano per tenth of a degree.
 pub struct Expansion(pub u64);
+
+impl Nano {
+    pub fn plus(self, other: Nano) -> Nano
+        requires { ⌜ natAbs (self .0) + natAbs (other .0) < 2 ^ 63 ⌝ }
+        ensures { λ r. ⌜ r ≡ nano (self .0 +ℤ other .0) ⌝ }
+        ensures most { λ r. ⌜ natAbs (r .0) ≤ natAbs (self .0) + natAbs (other .0) ⌝ }
+    {
+        let strain = self.0 + other.0;
+        Nano(strain)
+    }
+
+    pub fn minus(self, other: Nano) -> Nano
+        requires { ⌜ natAbs (self .0) + natAbs (other .0) < 2 ^ 63 ⌝ }
+        ensures { λ r. ⌜ r ≡ nano (self .0 -ℤ other .0) ⌝ }
+        ensures most { λ r. ⌜ natAbs (r .0) ≤ natAbs (self .0) + natAbs (other .0) ⌝ }
+    {
+        let strain = self.0 - other.0;
+        Nano(strain)
+    }
+
+    // MPa times nano gives grains.
+    pub fn times(self, modulus: Modulus) -> Grain
+        requires { ⌜ (modulus .0 < 2 ^ 63) × (modulus .0 * natAbs (self .0) < 2 ^ 63) ⌝ }
+        ensures { λ r. ⌜ r ≡ grain (pos (modulus .0) *ℤ self .0) ⌝ }
+        ensures size { λ r. ⌜ natAbs (r .0) ≡ modulus .0 * natAbs (self .0) ⌝ }
+    {
+        let factor = modulus.0 as i64;
+        let stress = factor * self.0;
+        Grain(stress)
+    }
+
+    pub fn magnitude(self) -> Length
+        ensures { λ r. ⌜ r ≡ length (natAbs (self .0)) ⌝ }
+    {
+        Length(size(self.0))
+    }
+}
+
+impl Tenths {
+    pub fn minus(self, other: Tenths) -> Tenths
+        requires { ⌜ natAbs (self .0) + natAbs (other .0) < 2 ^ 63 ⌝ }
+        ensures { λ r. ⌜ r ≡ tenths (self .0 -ℤ other .0) ⌝ }
+        ensures most { λ r. ⌜ natAbs (r .0) ≤ natAbs (self .0) + natAbs (other .0) ⌝ }
+    {
+        let difference = self.0 - other.0;
+        Tenths(difference)
+    }
+
+    pub fn times(self, expansion: Expansion) -> Nano
+        requires { ⌜ (expansion .0 < 2 ^ 63) × (expansion .0 * natAbs (self .0) < 2 ^ 63) ⌝ }
+        ensures { λ r. ⌜ r ≡ nano (pos (expansion .0) *ℤ self .0) ⌝ }
+        ensures size { λ r. ⌜ natAbs (r .0) ≡ expansion .0 * natAbs (self .0) ⌝ }
+    {
+        let factor = expansion.0 as i64;
+        let strain = factor * self.0;
+        Nano(strain)
+    }
+}
+
+impl Grain {
+    pub fn plus(self, other: Grain) -> Grain
+        requires { ⌜ natAbs (self .0) + natAbs (other .0) < 2 ^ 63 ⌝ }
+        ensures { λ r. ⌜ r ≡ grain (self .0 +ℤ other .0) ⌝ }
+        ensures most { λ r. ⌜ natAbs (r .0) ≤ natAbs (self .0) + natAbs (other .0) ⌝ }
+    {
+        let stress = self.0 + other.0;
+        Grain(stress)
+    }
+
+    pub fn minus(self, other: Grain) -> Grain
+        requires { ⌜ natAbs (self .0) + natAbs (other .0) < 2 ^ 63 ⌝ }
+        ensures { λ r. ⌜ r ≡ grain (self .0 -ℤ other .0) ⌝ }
+        ensures most { λ r. ⌜ natAbs (r .0) ≤ natAbs (self .0) + natAbs (other .0) ⌝ }
+    {
+        let stress = self.0 - other.0;
+        Grain(stress)
+    }
+
+    pub fn magnitude(self) -> Magnitude
+        ensures { λ r. ⌜ r ≡ magnitude (natAbs (self .0)) ⌝ }
+    {
+        Magnitude(size(self.0))
+    }
+
+    pub fn negative(self) -> bool
+        ensures { λ r. ⌜ r ≡ isNegative (self .0) ⌝ }
+    {
+        let stress = self.0;
+        stress < 0
+    }
+
+    // A magnitude with its sign put back.
+    pub fn of(negative: bool, size: Magnitude) -> Grain
+        requires { ⌜ size .0 < 2 ^ 63 ⌝ }
+        ensures { λ r. ⌜ r ≡ grain (withSign negative (size .0)) ⌝ }
+        ensures size { λ r. ⌜ natAbs (r .0) ≡ size .0 ⌝ }
+    {
+        let stress = size.0 as i64;
+        if negative {
+            let below = -stress;
+            return Grain(below);
+        }
+        Grain(stress)
+    }
+}
 
 impl Length {
     // MPa times nano gives grains.
@@ -57,6 +164,20 @@ impl Magnitude {
         Magnitude(self.0 - other.0)
     }
 
+    // The share tangent / modulus, rounded down; the quotient and the remainder apart, so that no product leaves 64 bits.
+    pub fn share(self, tangent: Modulus, modulus: Modulus) -> Magnitude
+        requires { ⌜ (0 < modulus .0) × (tangent .0 ≤ modulus .0) × (modulus .0 ≤ 2 ^ 32) ⌝ }
+        ensures { λ r. ⌜ r ≡ magnitude (self .0 * tangent .0 / modulus .0) ⌝ }
+    {
+        let d = self.0;
+        let t = tangent.0;
+        let e = modulus.0;
+        let parts = (d / e) * t;
+        let rest = (d % e) * t;
+        let share = parts + rest / e;
+        Magnitude(share)
+    }
+
     pub fn at_most(self, other: Magnitude) -> bool
         ensures { λ r. ⌜ r ≡ leb (self .0) (other .0) ⌝ }
     {
@@ -81,5 +202,16 @@ impl Modulus {
         ensures { λ r. ⌜ r ≡ ltb (self .0) (other .0) ⌝ }
     {
         self.0 < other.0
+    }
+}
+
+// The magnitude of a whole number. -1 - a is in range for the least number of 64 bits too.
+fn size(a: i64) -> u64
+    ensures { λ r. ⌜ r ≡ natAbs a ⌝ }
+{
+    if a < 0 {
+        ((-1 - a) as u64) + 1
+    } else {
+        a as u64
     }
 }

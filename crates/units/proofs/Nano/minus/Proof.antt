@@ -1,0 +1,18 @@
+use lib.IntN.{_-ℤ_}
+use Rattle.units.specs.Kinds.{nano}
+use Rattle.units.proofs.Magnitudes.{magnitude-difference, combined-fits, combined-in}
+use Rattle.units.proofs.Nano.minus.Statement.{statement}
+use Rattle.units.proofs.Nano.minus.Tie as tie
+
+sub-strain : tie.Need-sub-strain
+sub-strain c =
+    let s = c .before .before .before .before in
+    combined-fits _-ℤ_ magnitude-difference (s .args .self .0) (s .args .other .0) (s .pre)
+
+returns : tie.Need-returns
+returns c =
+    let s = c .before .before .before .before in
+    combined-in _-ℤ_ magnitude-difference (s .args .self .0) (s .args .other .0) (s .pre) nano
+
+pub minus-spec : {M : Type 1} → statement M
+minus-spec = tie.close (tie.spec sub-strain returns)
