@@ -2,3 +2,4 @@ pub mod FieldLaws
 pub mod SignLaws
 pub mod PutLaws
 pub mod LayoutLaws
+pub mod RangeLaws

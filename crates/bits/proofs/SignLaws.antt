@@ -7,7 +7,7 @@ use borrow.Author.Tests.{ltb-true, ltb-false, lt-leb, le-leb, lt-ltb, le-ltb}
 use lib.IntN.{ℤ, pos, negsuc, _-ℤ_}
 use lib.Dec.{ltb, leb}
 use lib.Pow.{ones-split, ones-lt, high}
-use lib.Signed.{ltZ, leZ}
+use lib.Signed.{ltZ, leZ, mag}
 use mir.Facts.{toZ-ofZ}
 use mir.Syntax.{w64}
 use mir.Val.{SFits, toZ, ofZ}
@@ -41,6 +41,10 @@ module _ {a b : ℤ} (fa : SFits w64 a) (fb : SFits w64 b) where
 
   pub not-above : ltZ (toZ w64 (ofZ w64 a)) (toZ w64 (ofZ w64 b)) ≡ false → leZ b a ≡ true
   not-above e = test-is e
+
+-- A number that a word holds comes out as it went in.
+pub held-as : {z y : ℤ} → mag z < 2 ^ 63 → z ≡ y → toZ w64 (ofZ w64 z) ≡ y
+held-as h e = toZ-ofZ {w = w64} (record { sfits = h }) ∙ e
 
 -- The greatest number of some width is all ones of 64 bits, shifted down.
 pub ones-shifted : (w : ℕ) → w ≤ 64 → 18446744073709551615 / 2 ^ (64 - w) ≡ 2 ^ w - 1

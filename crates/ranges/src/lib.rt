@@ -1,0 +1,39 @@
+// The numbers of document 01 that bound a field or a quantity, each under one name. `specs/Ranges.antt` has the same for contracts.
+
+// Moduli and expansions.
+pub const MOST_MODULUS: u64 = 400000;
+
+pub const MOST_EXPANSION: u64 = 10000;
+
+// Temperatures, in tenths.
+pub const LEAST_TEMPERATURE: i64 = -2000;
+
+pub const MOST_TEMPERATURE: i64 = 20000;
+
+// Yield stresses, in 10⁻³ MPa, and how many grains one of these is.
+pub const MOST_YIELD: u64 = 10000000;
+
+pub const GRAINS: u64 = 1000000;
+
+// Lengths of segments, in nano.
+pub const MOST_LENGTH: u64 = 100000000;
+
+// Total strain and the change of strain of a pair, in nano.
+pub const LEAST_STRAIN: i64 = -100000000;
+
+pub const MOST_STRAIN: i64 = 100000000;
+
+pub const LEAST_CHANGE: i64 = -200000000;
+
+pub const MOST_CHANGE: i64 = 200000000;
+
+// Stress and kinematic centre, in grains.
+pub const LEAST_STRESS: i64 = -100000000000000;
+
+pub const MOST_STRESS: i64 = 100000000000000;
+
+// Abscissas, in grains.
+pub const MOST_ABSCISSA: i64 = 100000000000000000;
+
+// Pairs of one list.
+pub const MOST_PAIRS: usize = 4096;
