@@ -1,3 +1,5 @@
 pub mod Parts
 pub mod Ring
 pub mod Order
+pub mod Common
+pub mod Comparison

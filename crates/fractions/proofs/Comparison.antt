@@ -1,0 +1,54 @@
+-- The order of fractions is total and decidable, and "the same number" is an equivalence, whatever the denominators.
+use mathlib.Core.List.{[], _∷_}
+use mathlib.Core.Logic.{_⊎_, inl, inr}
+use Prim.Native.Nat.{ℕ, _+_, _≤_, _<_}
+use native.Mathlib.Decide.{decLe}
+use native.Mathlib.Omega.{arith}
+use lib.Dec.{lit<}
+use Rattle.fractions.specs.Fraction.{Frac, _≤F_, _<F_, _≈F_}
+use Rattle.fractions.proofs.Common.{Is, is-own, is-le, is-lt, is-eq, AllOver, at-common, common}
+
+pub ≤F-refl : (x : Frac) → x ≤F x
+≤F-refl x = is-le (is-own x) (is-own x) .1 (omega arith)
+
+pub ≈F-refl : (x : Frac) → x ≈F x
+≈F-refl x = is-eq (is-own x) (is-own x) .1 (omega arith)
+
+module _ {x y : Frac} where
+  pub ≤F-of-<F : x <F y → x ≤F y
+  ≤F-of-<F h = at-common (x ∷ y ∷ []) (λ d ((_, _, i), ((_, _, j), _)). is-le i j .1 (omega (arith, is-lt i j .0 h)))
+
+  pub ≤F-of-≈F : x ≈F y → x ≤F y
+  ≤F-of-≈F h = at-common (x ∷ y ∷ []) (λ d ((_, _, i), ((_, _, j), _)). is-le i j .1 (omega (arith, is-eq i j .0 h)))
+
+  pub ≈F-sym : x ≈F y → y ≈F x
+  ≈F-sym h = at-common (x ∷ y ∷ []) (λ d ((_, _, i), ((_, _, j), _)). is-eq j i .1 (omega (arith, is-eq i j .0 h)))
+
+  pub ≤F-antisym : x ≤F y → y ≤F x → x ≈F y
+  ≤F-antisym h k = at-common (x ∷ y ∷ []) (λ d ((_, _, i), ((_, _, j), _)). is-eq i j .1 (omega (arith, is-le i j .0 h, is-le j i .0 k)))
+
+  pub <F-not-≤F : x <F y → ¬ (y ≤F x)
+  <F-not-≤F h k = at-common (x ∷ y ∷ []) (λ d ((_, _, i), ((_, _, j), _)). omega (arith, is-lt i j .0 h, is-le j i .0 k))
+
+pub ≤F-or-<F : (x y : Frac) → (x ≤F y) ⊎ (y <F x)
+≤F-or-<F x y = go (common (x ∷ y ∷ []))
+  where
+    go : {d : ℕ} → AllOver d (x ∷ y ∷ []) → (x ≤F y) ⊎ (y <F x)
+    go ((p, n, i), ((q, m, j), _)) = side (decLe (p + m) (q + n))
+      where
+        side : Dec (p + m ≤ q + n) → (x ≤F y) ⊎ (y <F x)
+        side (yes h) = inl (is-le i j .1 h)
+        side (no h) = inr (is-lt j i .1 (omega arith))
+
+module _ {x y z : Frac} where
+  pub ≤F-trans : x ≤F y → y ≤F z → x ≤F z
+  ≤F-trans g h = at-common (x ∷ y ∷ z ∷ []) (λ d ((_, _, i), ((_, _, j), ((_, _, k), _))). is-le i k .1 (omega (arith, is-le i j .0 g, is-le j k .0 h)))
+
+  pub <F-≤F-trans : x <F y → y ≤F z → x <F z
+  <F-≤F-trans g h = at-common (x ∷ y ∷ z ∷ []) (λ d ((_, _, i), ((_, _, j), ((_, _, k), _))). is-lt i k .1 (omega (arith, is-lt i j .0 g, is-le j k .0 h)))
+
+  pub ≤F-<F-trans : x ≤F y → y <F z → x <F z
+  ≤F-<F-trans g h = at-common (x ∷ y ∷ z ∷ []) (λ d ((_, _, i), ((_, _, j), ((_, _, k), _))). is-lt i k .1 (omega (arith, is-le i j .0 g, is-lt j k .0 h)))
+
+  pub ≈F-trans : x ≈F y → y ≈F z → x ≈F z
+  ≈F-trans g h = at-common (x ∷ y ∷ z ∷ []) (λ d ((_, _, i), ((_, _, j), ((_, _, k), _))). is-eq i k .1 (omega (arith, is-eq i j .0 g, is-eq j k .0 h)))
