@@ -43,6 +43,10 @@ pub is-whole : (z : ℤ) {d : ℕ} → 0 < d → Is (whole z) (d * up z) (d * dn
 unfolding whole
 is-whole z h = record { some = h; same = omega arith }
 
+pub is-whole-one : (z : ℤ) → Is (whole z) (up z) (dn z) 1
+unfolding whole
+is-whole-one z = is-own (whole z)
+
 pub is-add : {x y : Frac} {p n q m d : ℕ} → Is x p n d → Is y q m d → Is (x +F y) (p + q) (n + m) d
 unfolding _+F_
 is-add {x} {y} {p} {n} {q} {m} {d} i j =
@@ -196,3 +200,19 @@ common (x ∷ xs) =
 -- Whatever follows over each common denominator holds.
 pub at-common {ℓ} : (xs : List Frac) {P : Type ℓ} → ((d : ℕ) → AllOver d xs → P) → P
 at-common xs f = f (commonDen xs) (common xs)
+
+-- The same number is the same difference over the same denominator.
+pub is-same : {x y : Frac} {p n d : ℕ} → x ≈F y → Is x p n d → Is y p n d
+is-same {x} {y} {p} {n} {d} e i =
+    record {
+      some = i .some;
+      same =
+          eq-of-mul-eq-mul-left (x .den) (x .den-pos) (y .den * p + d * dn (y .num)) (y .den * n + d * up (y .num))
+          (omega (arith, ap (λ (k : ℕ). y .den * k) (i .same), ap (λ (k : ℕ). d * k) ups, ap (λ (k : ℕ). d * k) dns));
+    }
+  where
+    ups : y .den * up (x .num) ≡ x .den * up (y .num)
+    ups = sym (times-parts (y .den) (x .num) .0) ∙ ap up (e .cross) ∙ times-parts (x .den) (y .num) .0
+
+    dns : y .den * dn (x .num) ≡ x .den * dn (y .num)
+    dns = sym (times-parts (y .den) (x .num) .1) ∙ ap dn (e .cross) ∙ times-parts (x .den) (y .num) .1

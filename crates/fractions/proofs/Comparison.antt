@@ -1,12 +1,15 @@
 -- The order of fractions is total and decidable, and "the same number" is an equivalence, whatever the denominators.
 use mathlib.Core.List.{[], _∷_}
-use mathlib.Core.Logic.{_⊎_, inl, inr}
+use mathlib.Core.Path.{_≡_}
+use mathlib.Core.Logic.{_↔_, _⊎_, inl, inr}
 use Prim.Native.Nat.{ℕ, _+_, _≤_, _<_}
 use native.Mathlib.Decide.{decLe}
 use native.Mathlib.Omega.{arith}
-use lib.Dec.{lit<}
-use Rattle.fractions.specs.Fraction.{Frac, _≤F_, _<F_, _≈F_}
-use Rattle.fractions.proofs.Common.{Is, is-own, is-le, is-lt, is-eq, AllOver, at-common, common}
+use lib.IntN.{ℤ}
+use lib.Signed.{_≤ℤ_, _<ℤ_}
+use Rattle.fractions.specs.Fraction.{Frac, _≤F_, _<F_, _≈F_, whole}
+use Rattle.fractions.proofs.Parts.{equal-parts, le-parts, le-of-parts, lt-parts, lt-of-parts}
+use Rattle.fractions.proofs.Common.{is-own, is-whole-one, is-le, is-lt, is-eq, AllOver, at-common, common}
 
 pub ≤F-refl : (x : Frac) → x ≤F x
 ≤F-refl x = is-le (is-own x) (is-own x) .1 (omega arith)
@@ -52,3 +55,20 @@ module _ {x y z : Frac} where
 
   pub ≈F-trans : x ≈F y → y ≈F z → x ≈F z
   ≈F-trans g h = at-common (x ∷ y ∷ z ∷ []) (λ d ((_, _, i), ((_, _, j), ((_, _, k), _))). is-eq i k .1 (omega (arith, is-eq i j .0 g, is-eq j k .0 h)))
+
+-- Whole numbers are compared as they were.
+pub whole-le : (y z : ℤ) → (whole y ≤F whole z) ↔ (y ≤ℤ z)
+whole-le y z =
+    let i = is-whole-one y in
+    let j = is-whole-one z in
+    (λ h. le-of-parts y z (omega (arith, is-le i j .0 h)), λ h. is-le i j .1 (omega (arith, le-parts h)))
+
+pub whole-lt : (y z : ℤ) → (whole y <F whole z) ↔ (y <ℤ z)
+whole-lt y z =
+    let i = is-whole-one y in
+    let j = is-whole-one z in
+    (λ h. lt-of-parts y z (omega (arith, is-lt i j .0 h)), λ h. is-lt i j .1 (omega (arith, lt-parts h)))
+
+pub whole-eq : (y z : ℤ) → whole y ≈F whole z → y ≡ z
+whole-eq y z h =
+    equal-parts y z (omega (arith, is-eq (is-whole-one y) (is-whole-one z) .0 h))
