@@ -5,3 +5,6 @@ pub mod Common
 pub mod Comparison
 pub mod Arithmetic
 pub mod Rounded
+pub mod Secant
+pub mod Concave
+pub mod Moves
