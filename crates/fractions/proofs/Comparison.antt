@@ -1,13 +1,14 @@
 -- The order of fractions is total and decidable, and "the same number" is an equivalence, whatever the denominators.
 use mathlib.Core.List.{[], _∷_}
-use mathlib.Core.Path.{_≡_}
+use mathlib.Core.Bool.{Bool, true, false}
+use mathlib.Core.Path.{_≡_, refl}
 use mathlib.Core.Logic.{_↔_, _⊎_, inl, inr}
 use Prim.Native.Nat.{ℕ, _+_, _≤_, _<_}
 use native.Mathlib.Decide.{decLe}
 use native.Mathlib.Omega.{arith}
 use lib.IntN.{ℤ}
-use lib.Signed.{_≤ℤ_, _<ℤ_}
-use Rattle.fractions.specs.Fraction.{Frac, _≤F_, _<F_, _≈F_, whole}
+use lib.Signed.{_≤ℤ_, _<ℤ_, leZ-yes}
+use Rattle.fractions.specs.Fraction.{Frac, _≤F_, _<F_, _≈F_, leF, whole}
 use Rattle.fractions.proofs.Parts.{equal-parts, le-parts, le-of-parts, lt-parts, lt-of-parts}
 use Rattle.fractions.proofs.Common.{is-own, is-whole-one, is-le, is-lt, is-eq, AllOver, at-common, common}
 
@@ -42,6 +43,26 @@ pub ≤F-or-<F : (x y : Frac) → (x ≤F y) ⊎ (y <F x)
         side : Dec (p + m ≤ q + n) → (x ≤F y) ⊎ (y <F x)
         side (yes h) = inl (is-le i j .1 h)
         side (no h) = inr (is-lt j i .1 (omega arith))
+
+pub ≤F-cases : {x y : Frac} → x ≤F y → (x <F y) ⊎ (x ≈F y)
+≤F-cases {x} {y} h = go (≤F-or-<F y x)
+  where
+    go : (y ≤F x) ⊎ (x <F y) → (x <F y) ⊎ (x ≈F y)
+    go (inl k) = inr (≤F-antisym h k)
+    go (inr k) = inl k
+
+-- The test says which of the two holds.
+pub leF-cases : (x y : Frac) → ((x ≤F y) × (leF x y ≡ true)) ⊎ ((y <F x) × (leF x y ≡ false))
+unfolding leF
+leF-cases x y = go (leF x y) refl
+  where
+    go : (b : Bool) → leF x y ≡ b → ((x ≤F y) × (leF x y ≡ true)) ⊎ ((y <F x) × (leF x y ≡ false))
+    go true e = inl (record { cross = leZ-yes (rw e tt) }, e)
+    go false e = inr (above (≤F-or-<F x y), e)
+      where
+        above : (x ≤F y) ⊎ (y <F x) → y <F x
+        above (inl h) = absurd (rw e at (h .cross .le))
+        above (inr h) = h
 
 module _ {x y z : Frac} where
   pub ≤F-trans : x ≤F y → y ≤F z → x ≤F z

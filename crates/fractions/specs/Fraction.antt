@@ -1,11 +1,12 @@
 -- "Fractions (a whole number over a positive whole one, compared by cross products)" (document 01, The conditions of one pair).
 -- Every condition over fractions cites this file. Definitions only; nothing is assumed.
+use mathlib.Core.Bool.{Bool}
 use mathlib.Core.Path.{_≡_}
 use Prim.Native.Nat.{ℕ, _*_, _<_}
 use native.Mathlib.Nat.{mul-pos}
 use lib.Dec.{lit<}
 use lib.IntN.{ℤ, pos, negsuc, negℤ, natAbs, _+ℤ_, _*ℤ_}
-use lib.Signed.{_≤ℤ_, _<ℤ_}
+use lib.Signed.{_≤ℤ_, _<ℤ_, leZ}
 
 -- A whole number over a positive whole one. Each fraction has its own denominator, and it need not be the least.
 pub record Frac : Type 0 where
@@ -26,6 +27,10 @@ pub record _<F_ (x y : Frac) : Type 0 where
 -- m / d and n / e are the same number where e m = d n.
 pub record _≈F_ (x y : Frac) : Type 0 where
   pub cross : pos (y .den) *ℤ x .num ≡ pos (x .den) *ℤ y .num
+
+-- The test of the order, which computes.
+unfoldable pub leF : Frac → Frac → Bool
+leF x y = leZ (pos (y .den) *ℤ x .num) (pos (x .den) *ℤ y .num)
 
 -- A whole number is itself over one.
 unfoldable pub whole : ℤ → Frac
