@@ -1,2 +1,3 @@
 pub mod Magnitudes
+pub mod Words
 pub mod Floors

@@ -5,9 +5,9 @@ use mathlib.Core.Bool.{Bool, true, false}
 use lib.IntN.{ℤ, pos, negsuc, negℤ}
 
 -- Below zero; `negsuc n` is -(n + 1).
-abbrev pub isNegative : ℤ → Bool
-isNegative (pos n) = false
-isNegative (negsuc n) = true
+abbrev pub isNeg : ℤ → Bool
+isNeg (pos n) = false
+isNeg (negsuc n) = true
 
 -- The whole number of a sign and a magnitude.
 abbrev pub withSign : Bool → ℕ → ℤ

@@ -5,7 +5,7 @@ ghost use Prim.Native.Nat.{_+_, _-_, _*_, _/_, _^_, _≤_, _<_};
 ghost use lib.Dec.{leb, ltb};
 ghost use lib.IntN.{pos, natAbs, _+ℤ_, _-ℤ_, _*ℤ_};
 ghost use Rattle.units.specs.Kinds.{nano, grain, tenths, length, magnitude};
-ghost use Rattle.units.specs.Signs.{isNegative, withSign};
+ghost use Rattle.units.specs.Signs.{isNeg, withSign};
 
 // Strain, in 10⁻⁹.
 pub struct Nano(pub i64);
@@ -112,7 +112,7 @@ impl Grain {
     }
 
     pub fn negative(self) -> bool
-        ensures { λ r. ⌜ r ≡ isNegative (self .0) ⌝ }
+        ensures { λ r. ⌜ r ≡ isNeg (self .0) ⌝ }
     {
         let stress = self.0;
         stress < 0

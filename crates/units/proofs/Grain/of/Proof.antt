@@ -1,9 +1,12 @@
 use borrow.Author.Needs.{needs}
-use mathlib.Core.Path.{refl}
-use lib.IntN.{pos, negℤ, +ℤ-idl}
+use mathlib.Core.Path.{_≡_, refl, _∙_, ap}
+use lib.IntN.{pos, negℤ, natAbs, _-ℤ_, +ℤ-idl}
 use mir.Syntax.{w64}
+use mir.Val.{toZ}
 use mir.Facts.{toZ-ofZ, toZ-pos}
-use Rattle.units.proofs.Magnitudes.{fits-of-magnitude, magnitude-negated}
+use Rattle.units.specs.Kinds.{grain}
+use Rattle.units.proofs.Magnitudes.{magnitude-negated}
+use Rattle.units.proofs.Words.{stored, fits-of-magnitude}
 use Rattle.units.proofs.Grain.of.Statement.{statement}
 use Rattle.units.proofs.Grain.of.Tie as tie
 
@@ -14,12 +17,14 @@ sub-below c =
     rw (toZ-pos w64 (s .pre), +ℤ-idl (negℤ (pos size)))
     (fits-of-magnitude (negℤ (pos size)) (rw (magnitude-negated (pos size)) (s .pre)))
 
+below-is : (c : tie.Then1) → let size = c .before .before .args .size .0 in stored (pos 0 -ℤ toZ w64 size) ≡ negℤ (pos size)
+below-is c =
+    let s = c .before .before in
+    toZ-ofZ (sub-below c) ∙ rw (toZ-pos w64 (s .pre)) (+ℤ-idl (negℤ (pos (s .args .size .0))))
+
 returns : tie.Need-returns
 returns c =
-    let s = c .before .before in
-    let size = s .args .size .0 in
-    rw (toZ-ofZ (sub-below c), toZ-pos w64 (s .pre), +ℤ-idl (negℤ (pos size)), c .if1 .taken)
-    (refl, magnitude-negated (pos size))
+    rw (c .if1 .taken) (ap grain (below-is c), ap natAbs (below-is c) ∙ magnitude-negated (pos (c .before .before .args .size .0)))
 
 returns-2 : tie.Need-returns-2
 returns-2 c = rw (toZ-pos w64 (c .before .before .pre), c .if1 .left) (refl, refl)

@@ -1,6 +1,7 @@
 use lib.IntN.{_+ℤ_}
 use Rattle.units.specs.Kinds.{grain}
-use Rattle.units.proofs.Magnitudes.{magnitude-sum, combined-fits, combined-in}
+use Rattle.units.proofs.Magnitudes.{magnitude-sum}
+use Rattle.units.proofs.Words.{combined-fits, combined-in}
 use Rattle.units.proofs.Grain.plus.Statement.{statement}
 use Rattle.units.proofs.Grain.plus.Tie as tie
 

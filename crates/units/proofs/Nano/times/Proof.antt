@@ -1,6 +1,6 @@
 use borrow.Author.Needs.{needs}
 use Rattle.units.specs.Kinds.{grain}
-use Rattle.units.proofs.Magnitudes.{multiple-fits, multiple-in}
+use Rattle.units.proofs.Words.{multiple-fits, multiple-in}
 use Rattle.units.proofs.Nano.times.Statement.{statement}
 use Rattle.units.proofs.Nano.times.Tie as tie
 

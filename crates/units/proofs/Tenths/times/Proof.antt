@@ -1,6 +1,6 @@
 use borrow.Author.Needs.{needs}
 use Rattle.units.specs.Kinds.{nano}
-use Rattle.units.proofs.Magnitudes.{multiple-fits, multiple-in}
+use Rattle.units.proofs.Words.{multiple-fits, multiple-in}
 use Rattle.units.proofs.Tenths.times.Statement.{statement}
 use Rattle.units.proofs.Tenths.times.Tie as tie
 
