@@ -1,59 +1,74 @@
 -- What the answer of a field's reader says: the number lay outside its bounds, or within them and is the answer's.
-use Prim.Native.Nat.{ℕ, zero, suc}
-use mathlib.Core.Path.{_≡_, refl, sym}
+use Prim.Native.Nat.{ℕ, _<_}
+use mathlib.Core.Path.{_≡_, refl, sym, ap, _∙_}
+use mathlib.Core.Option.{Option, some, none}
 use mathlib.Core.Bool.{Bool, true, false}
 use mathlib.Core.List.{List}
+use native.Mathlib.Decide.{decLt}
 use native.Mathlib.Omega.{arith}
 use lib.IntN.{ℤ}
-use lib.Dec.{eqb, leb·zero, leb·suc-zero, eqb·suc-zero}
+use lib.Dec.{eqb}
+use borrow.Author.Tests.{le-leb, lt-leb, eq-eqb, ne-eqb}
 use Rattle.refusals.specs.Table.{pick}
 use Rattle.bits.specs.declared.Unsigned.{Unsigned}
-use Rattle.bits.specs.declared.Unsigned.the-variants as unsigned
+use Rattle.bits.specs.declared.Unsigned.the-variants as Unsigned
 use Rattle.bits.specs.declared.Signed.{Signed}
-use Rattle.bits.specs.declared.Signed.the-variants as signed
+use Rattle.bits.specs.declared.Signed.the-variants as Signed
 use Rattle.bits.specs.Field.{field, twos, within, withinℤ, unsignedOf, signedOf}
 
--- For any kind of number, and an answer that is either a number or `out`.
-module _ {A R : Type 0} (value : A → R) (out : R) (differ : (a : A) → value a ≡ out → ⊥) (same : (a b : A) → value a ≡ value b → a ≡ b) where
-  answer-out : (t : Bool) (x : A) → pick t (value x) out ≡ out → t ≡ false
-  answer-out true x e = absurd (differ x e)
-  answer-out false x e = refl
+some-is-not-none : {A : Type 0} {a : A} → some a ≡ none → ⊥
+some-is-not-none e = let n : _≡_ {A = ℕ} 0 1 = cc in omega arith
 
-  answer-in : (t : Bool) (x : A) {y : A} → pick t (value x) out ≡ value y → (t ≡ true) × (y ≡ x)
-  answer-in true x {y} e = (refl, same y x (sym e))
-  answer-in false x {y} e = absurd (differ y (sym e))
+same-some : {A : Type 0} {a b : A} → some a ≡ some b → a ≡ b
+same-some e = cc
 
--- Only zero lies within zero and zero.
-pub zero-only : (x : ℕ) → within 0 0 x ≡ eqb x 0
-zero-only zero = refl
-zero-only (suc x) = simp (leb·zero, leb·suc-zero, eqb·suc-zero)
+-- An answer that holds a value, or says that there is none.
+pub record Answers (A R : Type 0) : Type 0 where
+  pub value : A → R
+  pub out : R
+  pub held : R → Option A
+  pub held-value : (a : A) → held (value a) ≡ some a
+  pub held-out : held out ≡ none
 
-unsigned-differ : (x : ℕ) → unsigned.Value x ≡ unsigned.OutOfRange → ⊥
-unsigned-differ x e = let z : _≡_ {A = ℕ} 0 1 = cc in omega arith
+-- A choice between the two tells its test, and the value.
+module _ {A R : Type 0} (E : Answers A R) where
+  pub told-out : (t : Bool) (x : A) → pick t (E .value x) (E .out) ≡ E .out → t ≡ false
+  told-out true x e = absurd (some-is-not-none (sym (E .held-value x) ∙ ap (E .held) e ∙ E .held-out))
+  told-out false x e = refl
 
-unsigned-same : (x y : ℕ) → unsigned.Value x ≡ unsigned.Value y → x ≡ y
-unsigned-same x y e = cc
+  pub told-in : (t : Bool) (x : A) {y : A} → pick t (E .value x) (E .out) ≡ E .value y → (t ≡ true) × (y ≡ x)
+  told-in true x {y} e = (refl, same-some (sym (E .held-value y) ∙ ap (E .held) (sym e) ∙ E .held-value x))
+  told-in false x {y} e = absurd (some-is-not-none (sym (E .held-value y) ∙ ap (E .held) (sym e) ∙ E .held-out))
 
-signed-differ : (z : ℤ) → signed.Value z ≡ signed.OutOfRange → ⊥
-signed-differ z e = let n : _≡_ {A = ℕ} 0 1 = cc in omega arith
+-- Only a number itself lies within it and it.
+pub within-itself : (n x : ℕ) → within n n x ≡ eqb x n
+within-itself n x = by-order (decLt x n) (decLt n x)
+  where
+    by-order : Dec (x < n) → Dec (n < x) → within n n x ≡ eqb x n
+    by-order (yes h) d = rw (lt-leb n x h, ne-eqb x n (λ e. omega arith))
+    by-order (no h) (yes l) = rw (le-leb n x (omega arith), lt-leb x n l, ne-eqb x n (λ e. omega arith))
+    by-order (no h) (no l) = rw (le-leb n x (omega arith), le-leb x n (omega arith), eq-eqb x n (omega arith))
 
-signed-same : (x y : ℤ) → signed.Value x ≡ signed.Value y → x ≡ y
-signed-same x y e = cc
+unsigned : Answers ℕ Unsigned
+unsigned = record { value = Unsigned.Value; out = Unsigned.OutOfRange; held = elim [ Unsigned.Value x ↦ some x | Unsigned.OutOfRange ↦ none ]; held-value = λ x. refl; held-out = refl }
+
+signed : Answers ℤ Signed
+signed = record { value = Signed.Value; out = Signed.OutOfRange; held = elim [ Signed.Value z ↦ some z | Signed.OutOfRange ↦ none ]; held-value = λ z. refl; held-out = refl }
 
 module _ (s : List ℕ) (at w least most : ℕ) where
-  pub unsigned-out : unsignedOf s at w least most ≡ unsigned.OutOfRange → within least most (field s at w) ≡ false
-  unfolding unsignedOf
-  unsigned-out = answer-out unsigned.Value unsigned.OutOfRange unsigned-differ unsigned-same (within least most (field s at w)) (field s at w)
+  pub unsigned-out : unsignedOf s at w least most ≡ Unsigned.OutOfRange → within least most (field s at w) ≡ false
+  unfolding unsignedOf unsigned
+  unsigned-out = told-out unsigned (within least most (field s at w)) (field s at w)
 
-  pub unsigned-in : {x : ℕ} → unsignedOf s at w least most ≡ unsigned.Value x → (within least most (field s at w) ≡ true) × (x ≡ field s at w)
-  unfolding unsignedOf
-  unsigned-in = answer-in unsigned.Value unsigned.OutOfRange unsigned-differ unsigned-same (within least most (field s at w)) (field s at w)
+  pub unsigned-in : {x : ℕ} → unsignedOf s at w least most ≡ Unsigned.Value x → (within least most (field s at w) ≡ true) × (x ≡ field s at w)
+  unfolding unsignedOf unsigned
+  unsigned-in = told-in unsigned (within least most (field s at w)) (field s at w)
 
 module _ (s : List ℕ) (at w : ℕ) (least most : ℤ) where
-  pub signed-out : signedOf s at w least most ≡ signed.OutOfRange → withinℤ least most (twos w (field s at w)) ≡ false
-  unfolding signedOf
-  signed-out = answer-out signed.Value signed.OutOfRange signed-differ signed-same (withinℤ least most (twos w (field s at w))) (twos w (field s at w))
+  pub signed-out : signedOf s at w least most ≡ Signed.OutOfRange → withinℤ least most (twos w (field s at w)) ≡ false
+  unfolding signedOf signed
+  signed-out = told-out signed (withinℤ least most (twos w (field s at w))) (twos w (field s at w))
 
-  pub signed-in : {z : ℤ} → signedOf s at w least most ≡ signed.Value z → (withinℤ least most (twos w (field s at w)) ≡ true) × (z ≡ twos w (field s at w))
-  unfolding signedOf
-  signed-in = answer-in signed.Value signed.OutOfRange signed-differ signed-same (withinℤ least most (twos w (field s at w))) (twos w (field s at w))
+  pub signed-in : {z : ℤ} → signedOf s at w least most ≡ Signed.Value z → (withinℤ least most (twos w (field s at w)) ≡ true) × (z ≡ twos w (field s at w))
+  unfolding signedOf signed
+  signed-in = told-in signed (withinℤ least most (twos w (field s at w))) (twos w (field s at w))

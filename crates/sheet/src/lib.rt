@@ -1,7 +1,20 @@
-// The material sheet.
-use curve::{Segment, Side};
+// The material sheet: what it says, and its reader.
+use bits::Signed;
+use bits::Unsigned;
+use curve::Segment;
+use curve::Side;
 use law::Law;
-use units::{Expansion, Length, Magnitude, Modulus, Tenths};
+use units::Expansion;
+use units::Length;
+use units::Magnitude;
+use units::Modulus;
+use units::Tenths;
+ghost use mathlib.Core.Path.{_≡_};
+ghost use Prim.Native.Nat.{_≤_, _<_};
+ghost use mathlib.Core.List.{[]};
+ghost use Rattle.refusals.specs.Table.{firstOf};
+ghost use Rattle.sheet.specs.Sheets.{mostTension, compressionOf, modulusIn, tangentsRight, sevenPlaces, fieldRefusals, sheetRefusals, sheetOf, readMeaning};
+ghost use Rattle.sheet.specs.Parts.{countsIn, constantsIn, yieldsIn, numbersIn, leastLength, segmentsRead, acceptedAs};
 
 // What a sheet that passes says: yields in grains, lengths in nano, tangents and Young's modulus in MPa.
 pub struct Sheet {
@@ -11,4 +24,358 @@ pub struct Sheet {
     pub reference: Tenths,
     pub tension: Side,
     pub compression: Side,
+}
+
+// What reading a sheet comes to.
+pub enum Verdict {
+    Accepted,
+    WrongLength,
+    OutOfRange,
+    WrongTangent,
+}
+
+// What reading a sheet answers: the sheet says something only where the verdict is that it was accepted.
+pub struct SheetRead {
+    pub verdict: Verdict,
+    pub sheet: Sheet,
+}
+
+// The law, and how many segments each side has.
+struct Counts {
+    law: Law,
+    tension: usize,
+    compression: usize,
+}
+
+enum CountsRead {
+    Right(Counts),
+    OutOfRange,
+}
+
+// Young's modulus, the expansion and the reference temperature.
+struct Constants {
+    modulus: Modulus,
+    expansion: Expansion,
+    reference: Tenths,
+}
+
+enum ConstantsRead {
+    Right(Constants),
+    OutOfRange,
+}
+
+// The yield stress of each side.
+struct Yields {
+    tension: Magnitude,
+    compression: Magnitude,
+}
+
+enum YieldsRead {
+    Right(Yields),
+    OutOfRange,
+}
+
+// All that stands in the sheet's first 14 bytes.
+struct Numbers {
+    counts: Counts,
+    constants: Constants,
+    yields: Yields,
+}
+
+enum NumbersRead {
+    Right(Numbers),
+    OutOfRange,
+}
+
+// The segments of a side, and whether their lengths are right.
+struct SegmentsRead {
+    right: bool,
+    segments: [Segment; 7],
+}
+
+fn most_tension(law: Law) -> u64
+    ensures { λ r. ⌜ r ≡ mostTension law ⌝ }
+{
+    match law {
+        Law::IsotropicLine => 1,
+        Law::IsotropicCurve => 7,
+        Law::Kinematic => 1,
+        Law::Asymmetric => 1,
+    }
+}
+
+fn compression_of(law: Law) -> u64
+    ensures { λ r. ⌜ r ≡ compressionOf law ⌝ }
+{
+    match law {
+        Law::IsotropicLine => 0,
+        Law::IsotropicCurve => 0,
+        Law::Kinematic => 0,
+        Law::Asymmetric => 1,
+    }
+}
+
+fn read_counts(s: &[u8]) -> CountsRead
+    ensures { λ r. ⌜ r ≡ countsIn (now (s .entry)) ⌝ }
+{
+    let number = bits::read(s, 0, 2);
+    let law = Law::of(number);
+    let most = most_tension(law);
+    let Unsigned::Value(tension) = bits::read_unsigned(s, 2, 3, 1, most) else {
+        return CountsRead::OutOfRange;
+    };
+    let sides = compression_of(law);
+    let Unsigned::Value(compression) = bits::read_unsigned(s, 5, 3, sides, sides) else {
+        return CountsRead::OutOfRange;
+    };
+    CountsRead::Right(Counts {
+        law: law,
+        tension: tension as usize,
+        compression: compression as usize,
+    })
+}
+
+fn read_constants(s: &[u8]) -> ConstantsRead
+    ensures { λ r. ⌜ r ≡ constantsIn (now (s .entry)) ⌝ }
+{
+    let Unsigned::Value(modulus) = bits::read_unsigned(s, 8, 20, 1, ranges::MOST_MODULUS) else {
+        return ConstantsRead::OutOfRange;
+    };
+    let Unsigned::Value(expansion) = bits::read_unsigned(s, 28, 14, 0, ranges::MOST_EXPANSION)
+    else {
+        return ConstantsRead::OutOfRange;
+    };
+    let Signed::Value(reference) = bits::read_signed(
+        s,
+        42,
+        16,
+        ranges::LEAST_TEMPERATURE,
+        ranges::MOST_TEMPERATURE,
+    ) else {
+        return ConstantsRead::OutOfRange;
+    };
+    ConstantsRead::Right(Constants {
+        modulus: Modulus(modulus),
+        expansion: Expansion(expansion),
+        reference: Tenths(reference),
+    })
+}
+
+// The yields and the zero bits behind them. The compression yield is 0 where the law has no compression side.
+fn read_yields(s: &[u8], law: Law) -> YieldsRead
+    ensures { λ r. ⌜ r ≡ yieldsIn (now (s .entry)) law ⌝ }
+{
+    let Unsigned::Value(_) = bits::read_unsigned(s, 106, 6, 0, 0) else {
+        return YieldsRead::OutOfRange;
+    };
+    let Unsigned::Value(tension) = bits::read_unsigned(s, 58, 24, 1, ranges::MOST_YIELD) else {
+        return YieldsRead::OutOfRange;
+    };
+    let sides = compression_of(law);
+    let most = sides * ranges::MOST_YIELD;
+    let Unsigned::Value(compression) = bits::read_unsigned(s, 82, 24, sides, most) else {
+        return YieldsRead::OutOfRange;
+    };
+    let tension_grains = tension * ranges::GRAINS;
+    let compression_grains = compression * ranges::GRAINS;
+    YieldsRead::Right(Yields {
+        tension: Magnitude(tension_grains),
+        compression: Magnitude(compression_grains),
+    })
+}
+
+fn read_numbers(s: &[u8]) -> NumbersRead
+    ensures { λ r. ⌜ r ≡ numbersIn (now (s .entry)) ⌝ }
+{
+    let CountsRead::Right(counts) = read_counts(s) else {
+        return NumbersRead::OutOfRange;
+    };
+    let ConstantsRead::Right(constants) = read_constants(s) else {
+        return NumbersRead::OutOfRange;
+    };
+    let law = counts.law;
+    let YieldsRead::Right(yields) = read_yields(s, law) else {
+        return NumbersRead::OutOfRange;
+    };
+    NumbersRead::Right(Numbers {
+        counts: counts,
+        constants: constants,
+        yields: yields,
+    })
+}
+
+// The least length of a segment: 0 for the last one of its side.
+fn least_length(i: usize, count: usize) -> u64
+    requires { ⌜ i < 7 ⌝ }
+    ensures { λ r. ⌜ r ≡ leastLength i count ⌝ }
+{
+    if i + 1 == count {
+        return 0;
+    }
+    1
+}
+
+fn no_segments() -> [Segment; 7]
+    ensures { λ r. ⌜ r ≡ sevenPlaces [] ⌝ }
+{
+    [Segment {
+        length: Length(0),
+        tangent: Modulus(0),
+    }; 7]
+}
+
+// The segments of a side: `count` of them, from segment `first` of the sheet on.
+fn read_segments(s: &[u8], first: usize, count: usize) -> SegmentsRead
+    requires { ⌜ (first ≤ 7) × (count ≤ 7) ⌝ }
+    ensures { λ r. ⌜ r ≡ segmentsRead (now (s .entry)) first count ⌝ }
+{
+    let mut segments = no_segments();
+    let mut i = 0;
+    while i < count {
+        let at = 112 + 48 * (first + i);
+        let least = least_length(i, count);
+        let most = least * ranges::MOST_LENGTH;
+        let Unsigned::Value(length) = bits::read_unsigned(s, at, 28, least, most) else {
+            return SegmentsRead {
+                right: false,
+                segments: no_segments(),
+            };
+        };
+        let tangent = bits::read(s, at + 28, 20);
+        segments[i] = Segment {
+            length: Length(length),
+            tangent: Modulus(tangent),
+        };
+        i += 1;
+    }
+    SegmentsRead {
+        right: true,
+        segments: segments,
+    }
+}
+
+// Whether each tangent of a side is below Young's modulus and not above the one before it.
+fn tangents_right(s: &[u8], first: usize, count: usize, modulus: Modulus) -> bool
+    requires { ⌜ (first ≤ 7) × (count ≤ 7) × (modulus .0 ≡ modulusIn (now s)) ⌝ }
+    ensures { λ r. ⌜ r ≡ tangentsRight (now (s .entry)) first count ⌝ }
+{
+    let mut before = modulus;
+    let mut i = 0;
+    while i < count {
+        let at = 112 + 48 * (first + i);
+        let tangent = Modulus(bits::read(s, at + 28, 20));
+        if !tangent.below(modulus) {
+            return false;
+        }
+        if !tangent.at_most(before) {
+            return false;
+        }
+        before = tangent;
+        i += 1;
+    }
+    true
+}
+
+// A refusal has a sheet beside it that says nothing.
+fn refused(verdict: Verdict) -> SheetRead
+    ensures { λ r. ⌜ r .verdict ≡ verdict ⌝ }
+{
+    let nothing = Side {
+        yield_stress: Magnitude(0),
+        count: 0,
+        segments: no_segments(),
+    };
+    SheetRead {
+        verdict: verdict,
+        sheet: Sheet {
+            law: Law::IsotropicLine,
+            modulus: Modulus(0),
+            expansion: Expansion(0),
+            reference: Tenths(0),
+            tension: nothing,
+            compression: nothing,
+        },
+    }
+}
+
+// A sheet whose numbers and segments were read.
+fn accepted(numbers: Numbers, tension: [Segment; 7], compression: [Segment; 7]) -> SheetRead
+    ensures { λ r. ⌜ r ≡ acceptedAs numbers tension compression ⌝ }
+{
+    let counts = numbers.counts;
+    let constants = numbers.constants;
+    let yields = numbers.yields;
+    let law = counts.law;
+    let modulus = constants.modulus;
+    let expansion = constants.expansion;
+    let reference = constants.reference;
+    let tension_yield = yields.tension;
+    let compression_yield = yields.compression;
+    SheetRead {
+        verdict: Verdict::Accepted,
+        sheet: Sheet {
+            law: law,
+            modulus: modulus,
+            expansion: expansion,
+            reference: reference,
+            tension: Side {
+                yield_stress: tension_yield,
+                count: counts.tension,
+                segments: tension,
+            },
+            compression: Side {
+                yield_stress: compression_yield,
+                count: counts.compression,
+                segments: compression,
+            },
+        },
+    }
+}
+
+// Refusals 2 and 3, for bytes whose length is right.
+fn read_fields(s: &[u8]) -> SheetRead
+    ensures { λ r. ⌜ readMeaning r ≡ firstOf (fieldRefusals (now (s .entry))) (sheetOf (now (s .entry))) ⌝ }
+{
+    let NumbersRead::Right(numbers) = read_numbers(s) else {
+        return refused(Verdict::OutOfRange);
+    };
+    let counts = numbers.counts;
+    let tensions = counts.tension;
+    let compressions = counts.compression;
+    let tension = read_segments(s, 0, tensions);
+    if !tension.right {
+        return refused(Verdict::OutOfRange);
+    }
+    let compression = read_segments(s, tensions, compressions);
+    if !compression.right {
+        return refused(Verdict::OutOfRange);
+    }
+    let constants = numbers.constants;
+    let modulus = constants.modulus;
+    if !tangents_right(s, 0, tensions, modulus) {
+        return refused(Verdict::WrongTangent);
+    }
+    if !tangents_right(s, tensions, compressions, modulus) {
+        return refused(Verdict::WrongTangent);
+    }
+    let tension_segments = tension.segments;
+    let compression_segments = compression.segments;
+    accepted(numbers, tension_segments, compression_segments)
+}
+
+// Reads any bytes: the sheet, or which refusal it gets.
+pub fn read(s: &[u8]) -> SheetRead
+    ensures { λ r. ⌜ readMeaning r ≡ firstOf (sheetRefusals (now (s .entry))) (sheetOf (now (s .entry))) ⌝ }
+{
+    if s.len() < 14 {
+        return refused(Verdict::WrongLength);
+    }
+    let tensions = bits::read(s, 2, 3);
+    let compressions = bits::read(s, 5, 3);
+    let segments = (tensions + compressions) as usize;
+    let whole = 14 + 6 * segments;
+    if s.len() != whole {
+        return refused(Verdict::WrongLength);
+    }
+    read_fields(s)
 }

@@ -1,4 +1,3 @@
-use borrow.Author.Needs.{needs}
 use borrow.Author.Tests.{eq-eqb, ne-eqb}
 use Rattle.law.specs.Laws.{lawOf}
 use Rattle.law.proofs.Law.of.Statement.{statement}

@@ -1,0 +1,102 @@
+-- The loop keeps the segments passed in their places, and that their lengths were right.
+use Prim.Native.Nat.{ℕ, _+_, _-_, _*_, _≤_}
+use mathlib.Core.Path.{_≡_, refl, sym, ap, _∙_}
+use mathlib.Core.Bool.{true, false}
+use borrow.Author.Needs.{needs}
+use native.Mathlib.Omega.{arith}
+use lib.ListN.{length}
+use Rattle.ranges.specs.Ranges.{mostLength}
+use Rattle.bits.specs.Field.{unsignedOf}
+use Rattle.bits.proofs.RangeLaws.{unsigned-out, unsigned-in}
+use Rattle.sheet.specs.Sheets.{lengthRight, lengthsRight, allBelow, segmentsIn, sevenPlaces}
+use Rattle.sheet.specs.Parts.{leastLength, segmentsRead}
+use Rattle.sheet.proofs.SheetLaws.{least-length-small, length-bounds, all-below-more, all-below-stops, places-more}
+use Rattle.sheet.proofs.read_segments.Statement.{statement}
+use Rattle.sheet.proofs.read_segments.Tie as tie
+
+abbrev Inv-loop : tie.InvT-loop
+Inv-loop s first count segments₀ i₀ segments i =
+    (i ≤ count) × (allBelow (lengthRight s first count) i ≡ true) × (segments ≡ sevenPlaces (segmentsIn s first i))
+
+abbrev μ-loop : tie.MeasureT-loop
+μ-loop s first count segments₀ i₀ segments i = count - i
+
+loop-holds : tie.Need-loop-holds Inv-loop μ-loop
+unfolding allBelow segmentsIn
+loop-holds c = (omega arith, refl, c .no-segments .ensures)
+
+mul-most : tie.Need-mul-most Inv-loop μ-loop
+mul-most c =
+    let i = c .before .before .loop .i in
+    let count = c .before .before .before .before .before .args .count in
+    record { fits = omega (arith, c .least-length .ensures, least-length-small i count) }
+
+-- the answer on a segment's length, with the bounds that its place gives
+length-read : (c : tie.After-read-unsigned Inv-loop μ-loop)
+    → let at-loop = c .before .before .before in
+    let a = at-loop .before .before .before .args in
+    let i = at-loop .loop .i in
+    unsignedOf (a .s .now) (112 + 48 * (a .first + i)) 28 (leastLength i (a .count)) (leastLength i (a .count) * mostLength) ≡ c .read-unsigned .result
+length-read c =
+    let at-loop = c .before .before .before in
+    let a = at-loop .before .before .before .args in
+    let i = at-loop .loop .i in
+    ap (λ (n : ℕ). unsignedOf (a .s .now) (112 + 48 * (a .first + i)) 28 n (n * mostLength)) (sym (c .before .least-length .ensures)) ∙ sym (c .read-unsigned .ensures)
+
+returns : tie.Need-returns Inv-loop μ-loop
+unfolding segmentsRead lengthsRight
+returns c =
+    let r = c .before .before .before in
+    let at-loop = r .before .before .before in
+    let a = at-loop .before .before .before .args in
+    let i = at-loop .loop .i in
+    let wrong : lengthRight (a .s .now) (a .first) (a .count) i ≡ false =
+    sym (length-bounds (a .s .now) (a .first) (a .count) i) ∙ unsigned-out _ _ 28 _ _ (length-read r ∙ c .before .enum-told .given .1) in
+    rw (all-below-stops (lengthRight (a .s .now) (a .first) (a .count)) i (a .count) (r .before .before .loop-test .taken) wrong, c .no-segments2 .ensures)
+
+loop-again : tie.Need-loop-again Inv-loop μ-loop
+loop-again c =
+    let told = c .before in
+    let r = told .before .before .before in
+    let at-loop = r .before .before .before in
+    let a = at-loop .before .before .before .args in
+    let i = at-loop .loop .i in
+    let length = unsigned-in _ _ 28 _ _ (length-read r ∙ told .before .length .given .1) in
+    let right : lengthRight (a .s .now) (a .first) (a .count) i ≡ true = sym (length-bounds (a .s .now) (a .first) (a .count) i) ∙ length .0 in
+    (omega arith, all-below-more (lengthRight (a .s .now) (a .first) (a .count)) i (at-loop .loop .inv .1) right, rw (at-loop .loop .inv .2, length .1, c .read .ensures) (places-more (a .s .now) (a .first) i (omega arith)))
+
+returns-2 : tie.Need-returns-2 Inv-loop μ-loop
+unfolding segmentsRead lengthsRight
+returns-2 c =
+    let l = c .before .loop in
+    let a = c .before .before .before .before .args in
+    let all : l .i ≡ a .count = omega arith in
+    let right : allBelow (lengthRight (a .s .now) (a .first) (a .count)) (a .count) ≡ true = ap (allBelow (lengthRight (a .s .now) (a .first) (a .count))) (sym all) ∙ l .inv .1 in
+    rw (right, l .inv .2, all)
+
+pub read-segments-spec : {M : Type 1} → statement M
+read-segments-spec =
+    tie.close
+    (tie.spec
+    Inv-loop
+    μ-loop
+    (λ c κs. search needs)
+    loop-holds
+    (λ c. search needs)
+    (λ c. search needs)
+    (λ c. search needs)
+    (λ c κs. search needs)
+    mul-most
+    (λ c κs. search needs)
+    (λ c. search needs)
+    (λ c. search needs)
+    (λ c κs. search needs)
+    returns
+    (λ c. search needs)
+    (λ c κs. search needs)
+    (λ c. search needs)
+    (λ c. search needs)
+    (λ c. search needs)
+    (λ c. search needs)
+    loop-again
+    returns-2)
