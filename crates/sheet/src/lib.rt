@@ -259,15 +259,16 @@ fn tangents_right(s: &[u8], first: usize, count: usize, modulus: Modulus) -> boo
     requires { ⌜ (first ≤ 7) × (count ≤ 7) × (modulus .0 ≡ modulusIn (now s)) ⌝ }
     ensures { λ r. ⌜ r ≡ tangentsRight (now (s .entry)) first count ⌝ }
 {
-    let mut before = modulus;
+    let most = modulus.0;
+    let mut before = most;
     let mut i = 0;
     while i < count {
         let at = 112 + 48 * (first + i);
-        let tangent = Modulus(bits::read(s, at + 28, 20));
-        if !tangent.below(modulus) {
+        let tangent = bits::read(s, at + 28, 20);
+        if most <= tangent {
             return false;
         }
-        if !tangent.at_most(before) {
+        if before < tangent {
             return false;
         }
         before = tangent;

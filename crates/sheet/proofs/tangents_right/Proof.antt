@@ -1,11 +1,11 @@
 -- The loop keeps the tangent before, which is Young's modulus at first.
-use Prim.Native.Nat.{_+_, _-_, _≤_}
+use Prim.Native.Nat.{_+_, _-_, _≤_, _<_}
 use mathlib.Core.Path.{_≡_, refl, sym, ap, ap₂, _∙_}
 use mathlib.Core.Bool.{true, false}
 use borrow.Author.Needs.{needs}
+use borrow.Author.Tests.{lt-ltb, le-ltb, lt-leb, le-leb, ne-eqb}
 use native.Mathlib.Omega.{arith}
-use borrow.Author.Tests.{ne-eqb, not-true, not-false}
-use lib.Dec.{eqb, ltb, leb}
+use lib.Dec.{eqb, leb}
 use Rattle.refusals.specs.Table.{pick}
 use Rattle.sheet.specs.Sheets.{modulusIn, tangentIn, tangentRight, tangentsRight, allBelow}
 use Rattle.sheet.proofs.SheetLaws.{all-below-more, all-below-stops, tangent-rule}
@@ -13,56 +13,55 @@ use Rattle.sheet.proofs.tangents_right.Statement.{statement}
 use Rattle.sheet.proofs.tangents_right.Tie as tie
 
 abbrev Inv-loop : tie.InvT-loop
-Inv-loop s first count modulus before₀ i₀ before i =
-    (i ≤ count) × (allBelow (tangentRight s first) i ≡ true) × (before .0 ≡ pick (eqb i 0) (modulusIn s) (tangentIn s (first + i - 1)))
+Inv-loop s first count most before₀ i₀ before i =
+    (i ≤ count) × (allBelow (tangentRight s first) i ≡ true) × (before ≡ pick (eqb i 0) (modulusIn s) (tangentIn s (first + i - 1)))
 
 abbrev μ-loop : tie.MeasureT-loop
-μ-loop s first count modulus before₀ i₀ before i = count - i
+μ-loop s first count most before₀ i₀ before i = count - i
 
 loop-holds : tie.Need-loop-holds Inv-loop μ-loop
 unfolding allBelow
 loop-holds c = (omega arith, refl, c .before .pre .2)
 
--- the two tests, over the sheet's bytes
-below-is : (c : tie.After-below Inv-loop μ-loop) → let at-loop = c .before .before .before in
-    let a = at-loop .before .before .args in
-    c .below .result ≡ ltb (tangentIn (a .s .now) (a .first + at-loop .loop .i)) (modulusIn (a .s .now))
-below-is c = c .below .ensures ∙ ap₂ ltb (c .before .read .ensures) (c .before .before .before .before .before .pre .2)
-
-at-most-is : (c : tie.After-at-most Inv-loop μ-loop) → let at-loop = c .before .before .before .before .before in
-    let a = at-loop .before .before .args in
-    c .at-most .result ≡ tangentRight (a .s .now) (a .first) (at-loop .loop .i)
-at-most-is c =
-    let below = c .before .before in
-    let at-loop = below .before .before .before in
-    let a = at-loop .before .before .args in
-    c .at-most .ensures ∙ ap₂ leb (below .before .read .ensures) (at-loop .loop .inv .2)
-    ∙ sym (tangent-rule (a .s .now) (a .first) (at-loop .loop .i) (sym (below-is below) ∙ not-false _ (c .before .if1 .left)))
-
 returns : tie.Need-returns Inv-loop μ-loop
 unfolding tangentsRight
 returns c =
-    let at-loop = c .before .before .before .before in
+    let read = c .before in
+    let at-loop = read .before .before in
     let a = at-loop .before .before .args in
     let i = at-loop .loop .i in
-    let wrong : tangentRight (a .s .now) (a .first) i ≡ false = rw (sym (below-is (c .before)) ∙ not-true _ (c .if1 .taken)) in
-    sym (all-below-stops (tangentRight (a .s .now) (a .first)) i (a .count) (c .before .before .before .loop-test .taken) wrong)
+    let high : modulusIn (a .s .now) ≤ tangentIn (a .s .now) (a .first + i) = omega (arith, c .if1 .taken, read .read .ensures, at-loop .before .before .pre .2) in
+    let wrong : tangentRight (a .s .now) (a .first) i ≡ false = rw (le-ltb _ _ high) in
+    sym (all-below-stops (tangentRight (a .s .now) (a .first)) i (a .count) (read .before .loop-test .taken) wrong)
+
+-- below Young's modulus, the second test is the rule
+rule : (c : tie.Else1 Inv-loop μ-loop) → let at-loop = c .before .before .before in
+    let a = at-loop .before .before .args in
+    let i = at-loop .loop .i in
+    tangentRight (a .s .now) (a .first) i ≡ leb (c .before .read .result) (at-loop .loop .before)
+rule c =
+    let at-loop = c .before .before .before in
+    let a = at-loop .before .before .args in
+    let i = at-loop .loop .i in
+    let low : tangentIn (a .s .now) (a .first + i) < modulusIn (a .s .now) = omega (arith, c .if1 .left, c .before .read .ensures, at-loop .before .before .pre .2) in
+    tangent-rule (a .s .now) (a .first) i (lt-ltb _ _ low) ∙ sym (ap₂ leb (c .before .read .ensures) (at-loop .loop .inv .2))
 
 returns-2 : tie.Need-returns-2 Inv-loop μ-loop
 unfolding tangentsRight
 returns-2 c =
-    let at-loop = c .before .before .before .before .before .before in
+    let at-loop = c .before .before .before .before in
     let a = at-loop .before .before .args in
-    sym (all-below-stops (tangentRight (a .s .now) (a .first)) (at-loop .loop .i) (a .count) (c .before .before .before .before .before .loop-test .taken) (sym (at-most-is (c .before)) ∙ not-true _ (c .if2 .taken)))
+    let wrong = rule (c .before) ∙ lt-leb _ _ (c .if2 .taken) in
+    sym (all-below-stops (tangentRight (a .s .now) (a .first)) (at-loop .loop .i) (a .count) (c .before .before .before .loop-test .taken) wrong)
 
 loop-again : tie.Need-loop-again Inv-loop μ-loop
 loop-again c =
-    let at-loop = c .before .before .before .before .before .before in
+    let at-loop = c .before .before .before .before in
     let a = at-loop .before .before .args in
     let i = at-loop .loop .i in
     let next : a .first + (i + 1) - 1 ≡ a .first + i = omega arith in
     let later : eqb (i + 1) 0 ≡ false = ne-eqb (i + 1) 0 (λ e. omega arith) in
-    (omega arith, all-below-more (tangentRight (a .s .now) (a .first)) i (at-loop .loop .inv .1) (sym (at-most-is (c .before)) ∙ not-false _ (c .if2 .left)), rw (later, next) (c .before .before .before .before .read .ensures))
+    (omega arith, all-below-more (tangentRight (a .s .now) (a .first)) i (at-loop .loop .inv .1) (rule (c .before) ∙ le-leb _ _ (c .if2 .left)), rw (later, next) (c .before .before .read .ensures))
 
 returns-3 : tie.Need-returns-3 Inv-loop μ-loop
 unfolding tangentsRight
@@ -84,9 +83,7 @@ tangents-right-spec =
     (λ c. search needs)
     (λ c. search needs)
     (λ c κs. search needs)
-    (λ c κs. search needs)
     returns
-    (λ c κs. search needs)
     returns-2
     (λ c. search needs)
     (λ c. search needs)
