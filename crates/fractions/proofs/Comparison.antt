@@ -2,7 +2,7 @@
 use mathlib.Core.List.{[], _∷_}
 use mathlib.Core.Bool.{Bool, true, false}
 use mathlib.Core.Path.{_≡_, refl}
-use mathlib.Core.Logic.{_↔_, _⊎_, inl, inr}
+use mathlib.Core.Logic.{_↔_, _⊎_, inl, inr, ⊎-elim}
 use Prim.Native.Nat.{ℕ, _+_, _≤_, _<_}
 use native.Mathlib.Decide.{decLe}
 use native.Mathlib.Omega.{arith}
@@ -43,6 +43,12 @@ pub ≤F-or-<F : (x y : Frac) → (x ≤F y) ⊎ (y <F x)
         side : Dec (p + m ≤ q + n) → (x ≤F y) ⊎ (y <F x)
         side (yes h) = inl (is-le i j .1 h)
         side (no h) = inr (is-lt j i .1 (omega arith))
+
+pub ≤F-of-not-<F : {x y : Frac} → ¬ (y <F x) → x ≤F y
+≤F-of-not-<F {x} {y} h = ⊎-elim (λ l. l) (λ l. absurd (h l)) (≤F-or-<F x y)
+
+pub <F-of-not-≤F : {x y : Frac} → ¬ (y ≤F x) → x <F y
+<F-of-not-≤F {x} {y} h = ⊎-elim (λ l. absurd (h l)) (λ l. l) (≤F-or-<F y x)
 
 pub ≤F-cases : {x y : Frac} → x ≤F y → (x <F y) ⊎ (x ≈F y)
 ≤F-cases {x} {y} h = go (≤F-or-<F y x)

@@ -8,3 +8,4 @@ pub mod Rounded
 pub mod Secant
 pub mod Concave
 pub mod Moves
+pub mod Signs
