@@ -1,2 +1,3 @@
 pub mod OneSide
 pub mod Isotropic
+pub mod Asymmetric
