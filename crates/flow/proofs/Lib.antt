@@ -1,3 +1,4 @@
 pub mod OneSide
 pub mod Isotropic
 pub mod Asymmetric
+pub mod Kinematic

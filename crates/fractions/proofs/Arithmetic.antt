@@ -3,11 +3,12 @@ use mathlib.Core.Path.{refl}
 use mathlib.Core.List.{[], _∷_}
 use mathlib.Core.Logic.{_↔_}
 use Prim.Native.Nat.{ℕ, _+_, _*_, _≤_, _<_, max, min}
+use native.Mathlib.Nat.{mul-le-mul-left, mul-lt-mul-of-pos-left, lt-of-mul-lt-mul-left, eq-of-mul-eq-mul-left}
 use native.Mathlib.Decide.{decLe}
 use native.Mathlib.Omega.{arith}
 use lib.IntN.{pos}
-use Rattle.fractions.specs.Fraction.{Frac, _≤F_, _≈F_, whole, _+F_, negF, _-F_, absF, signedF, timesF, Within}
-use Rattle.fractions.proofs.Common.{Is, is-own, is-same, is-whole, is-add, is-neg, is-sub, is-abs, is-signed-up, is-signed-dn, is-times, is-le, is-eq, at-common}
+use Rattle.fractions.specs.Fraction.{Frac, _≤F_, _<F_, _≈F_, whole, _+F_, negF, _-F_, absF, signedF, timesF, Within}
+use Rattle.fractions.proofs.Common.{Is, is-own, is-same, is-scale, is-whole, is-add, is-neg, is-sub, is-abs, is-signed-up, is-signed-dn, is-times, is-le, is-lt, is-eq, at-common}
 
 pub add-same : {w x y z : Frac} → w ≈F x → y ≈F z → (w +F y) ≈F (x +F z)
 add-same {w} {x} {y} {z} e f =
@@ -52,3 +53,52 @@ is-within {x} {y} {p} {n} {q} {m} {d} k i j =
       λ w. let h = is-le u v .0 (w .within) in record { above = omega arith; below = omega arith },
       λ near. record { within = is-le u v .1 (omega (arith, near .above, near .below)) },
     )
+
+-- ---- A ratio above nought keeps the sign, and the number can be told from the product
+
+module _ (x : Frac) (t e : ℕ) (h : 0 < e) where
+  pub times-not-negative : whole (pos 0) ≤F x → whole (pos 0) ≤F timesF x t e h
+  times-not-negative k =
+      at-common (x ∷ [])
+      (λ d ((_, _, i), _).
+      let j = is-times t e h i in
+      is-le (is-whole (pos 0) (j .some)) j .1 (omega (arith, mul-le-mul-left t (is-le (is-whole (pos 0) (i .some)) i .0 k))))
+
+  pub times-positive : 0 < t → (whole (pos 0) <F timesF x t e h) ↔ (whole (pos 0) <F x)
+  times-positive l = (
+    λ k. at-common (x ∷ [])
+        (λ d ((_, _, i), _).
+        let j = is-times t e h i in
+        is-lt (is-whole (pos 0) (i .some)) i .1 (lt-of-mul-lt-mul-left t (omega (arith, is-lt (is-whole (pos 0) (j .some)) j .0 k)))),
+    λ k. at-common (x ∷ [])
+        (λ d ((_, _, i), _).
+        let j = is-times t e h i in
+        is-lt (is-whole (pos 0) (j .some)) j .1 (omega (arith, mul-lt-mul-of-pos-left (is-lt (is-whole (pos 0) (i .some)) i .0 k) l))),
+  )
+
+pub times-injective : (x y : Frac) (t e : ℕ) (h : 0 < e) → 0 < t → timesF x t e h ≈F timesF y t e h → x ≈F y
+times-injective x y t e h l k =
+    at-common (x ∷ y ∷ [])
+    (λ d ((p, n, i), ((q, m, j), _)).
+    is-eq i j .1 (eq-of-mul-eq-mul-left t l (p + m) (q + n) (omega (arith, is-eq (is-times t e h i) (is-times t e h j) .0 k))))
+
+-- ---- A summand can be told from the sum
+
+module _ (x y z : Frac) where
+  pub add-injective : (x +F y) ≈F (x +F z) → y ≈F z
+  add-injective h =
+      at-common (x ∷ y ∷ z ∷ [])
+      (λ d ((_, _, i), ((_, _, j), ((_, _, k), _))). is-eq j k .1 (omega (arith, is-eq (is-add i j) (is-add i k) .0 h)))
+
+  pub sub-injective : (x -F y) ≈F (x -F z) → y ≈F z
+  sub-injective h =
+      at-common (x ∷ y ∷ z ∷ [])
+      (λ d ((_, _, i), ((_, _, j), ((_, _, k), _))). is-eq j k .1 (omega (arith, is-eq (is-sub i j) (is-sub i k) .0 h)))
+
+pub add-then-sub : (x y : Frac) → (x +F y -F x) ≈F y
+add-then-sub x y = at-common (x ∷ y ∷ []) (λ d ((_, _, i), ((_, _, j), _)). is-eq (is-sub (is-add i j) i) j .1 (omega arith))
+
+-- k / e and then t / k is t / e.
+pub times-times : (x : Frac) (t k e : ℕ) (h : 0 < k) (g : 0 < e) → timesF (timesF x k e g) t k h ≈F timesF x t e g
+times-times x t k e h g =
+    at-common (x ∷ []) (λ d ((_, _, i), _). is-eq (is-times t k h (is-times k e g i)) (is-scale k h (is-times t e g i)) .1 (omega arith))

@@ -5,8 +5,8 @@ use Prim.Native.Nat.{ℕ, _+_, _*_, _≤_, _<_}
 use native.Mathlib.Decide.{decLe}
 use native.Mathlib.Omega.{arith}
 use lib.IntN.{pos}
-use Rattle.fractions.specs.Fraction.{Frac, _≤F_, _<F_, _≈F_, whole, _+F_, _-F_, absF, signedF}
-use Rattle.fractions.proofs.Common.{Is, is-whole, is-add, is-sub, is-abs, is-signed-up, is-signed-dn, is-le, is-lt, is-eq, at-common}
+use Rattle.fractions.specs.Fraction.{Frac, _≤F_, _<F_, _≈F_, whole, _+F_, _-F_, absF, signedF, timesF}
+use Rattle.fractions.proofs.Common.{Is, is-whole, is-add, is-sub, is-abs, is-signed-up, is-signed-dn, is-times, is-le, is-lt, is-eq, at-common}
 
 -- The magnitude with the sign put back.
 pub signed-abs : (x : Frac) → signedF x (absF x) ≈F x
@@ -69,3 +69,25 @@ nought-signed s x y = at-common (s ∷ x ∷ y ∷ []) (λ d ((p, n, i), ((_, _,
     go : (p n d u v p′ n′ : ℕ) → Is s p n d → Is x u v d → Is y p′ n′ d → Dec (n ≤ p) → (x -F x) ≈F signedF s (y -F y)
     go p n d u v p′ n′ i j k (yes l) = is-eq (is-sub j j) (is-signed-up i l (is-sub k k)) .1 (omega arith)
     go p n d u v p′ n′ i j k (no l) = is-eq (is-sub j j) (is-signed-dn i (omega arith) (is-sub k k)) .1 (omega arith)
+
+-- A factor passes through a sign.
+pub times-signed : (s : Frac) (x : Frac) (t e : ℕ) (h : 0 < e) → timesF (signedF s x) t e h ≈F signedF s (timesF x t e h)
+times-signed s x t e h = at-common (s ∷ x ∷ []) (λ d ((p, n, i), ((_, _, j), _)). go p n d _ _ i j (decLe n p))
+  where
+    go : (p n d u v : ℕ) → Is s p n d → Is x u v d → Dec (n ≤ p) → timesF (signedF s x) t e h ≈F signedF s (timesF x t e h)
+    go p n d u v i j (yes l) = is-eq (is-times t e h (is-signed-up i l j)) (is-signed-up i l (is-times t e h j)) .1 refl
+    go p n d u v i j (no l) = let m : p < n = omega arith in is-eq (is-times t e h (is-signed-dn i m j)) (is-signed-dn i m (is-times t e h j)) .1 refl
+
+pub abs-not-negative : (x : Frac) → whole (pos 0) ≤F absF x
+abs-not-negative x = at-common (x ∷ []) (λ d ((_, _, i), _). is-le (is-whole (pos 0) (i .some)) (is-abs i) .1 (omega arith))
+
+-- A sign put before a number above nought is the sign of what comes out.
+pub signed-signed : (s : Frac) {m : Frac} (x : Frac) → whole (pos 0) <F m → signedF (signedF s m) x ≈F signedF s x
+signed-signed s {m} x h = at-common (s ∷ m ∷ x ∷ []) (λ d ((p, n, i), ((_, _, j), ((_, _, k), _))). go p n d _ _ _ _ i j k (decLe n p))
+  where
+    go : (p n d u v p′ n′ : ℕ) → Is s p n d → Is m u v d → Is x p′ n′ d → Dec (n ≤ p) → signedF (signedF s m) x ≈F signedF s x
+    go p n d u v p′ n′ i j k (yes l) =
+        is-eq (is-signed-up (is-signed-up i l j) (omega (arith, is-lt (is-whole (pos 0) (i .some)) j .0 h)) k) (is-signed-up i l k) .1 refl
+    go p n d u v p′ n′ i j k (no l) =
+        let b : p < n = omega arith in
+        is-eq (is-signed-dn (is-signed-dn i b j) (omega (arith, is-lt (is-whole (pos 0) (i .some)) j .0 h)) k) (is-signed-dn i b k) .1 refl
