@@ -88,7 +88,7 @@ module _ {tension compression : Side} (curve : Hardens tension) (curve′ : Hard
       )
 
   -- With no strain in compression the tension side alone carries the trial.
-  tension-alone : {trial A B q A′ B′ : Frac} → Asymmetric tension compression trial A B q A′ B′ → ¬ (accumulated compression B <F accumulated compression B′)
+  pub tension-alone : {trial A B q A′ B′ : Frac} → Asymmetric tension compression trial A B q A′ B′ → ¬ (accumulated compression B <F accumulated compression B′)
       → trial ≈F (q +F (accumulated tension A′ -F accumulated tension A))
   tension-alone {trial} {A} {B} {q} {A′} {B′} s h =
       at-common (trial ∷ q ∷ accumulated tension A ∷ accumulated tension A′ ∷ accumulated compression B ∷ accumulated compression B′ ∷ [])
@@ -102,7 +102,7 @@ module _ {tension compression : Side} (curve : Hardens tension) (curve′ : Hard
       )))
 
   -- The tension side's plastic strain grows exactly when the trial passes its limit.
-  tension-grows : {trial A B stress A′ B′ : Frac} → tension .yield ≤F A → Asymmetric tension compression trial A B stress A′ B′
+  pub tension-grows : {trial A B stress A′ B′ : Frac} → tension .yield ≤F A → Asymmetric tension compression trial A B stress A′ B′
       → (accumulated tension A <F accumulated tension A′) ↔ (tension .limit A <F trial)
   tension-grows {trial} {A} {B} {stress = q} {A′} {B′} p s = (
     λ l. grows-past-limit curve p (s .tension-holds) (tension-alone s (at-most-one s l)) .0 l,
@@ -125,7 +125,7 @@ module _ {tension compression : Side} (curve : Hardens tension) (curve′ : Hard
           ))
 
   -- The trial stays at or below both limits, or passes that of tension.
-  asymmetric-rests : {trial A B : Frac} → tension .yield ≤F A → compression .yield ≤F B → trial ≤F tension .limit A → negF trial ≤F compression .limit B
+  pub asymmetric-rests : {trial A B : Frac} → tension .yield ≤F A → compression .yield ≤F B → trial ≤F tension .limit A → negF trial ≤F compression .limit B
       → Asymmetric tension compression trial A B trial A B
   asymmetric-rests {trial} {A} {B} p p′ h h′ =
       record {
@@ -136,7 +136,7 @@ module _ {tension compression : Side} (curve : Hardens tension) (curve′ : Hard
             (λ d ((_, _, t), ((_, _, a), ((_, _, b), _))). is-eq (is-sub t t) (is-sub (is-sub a a) (is-sub b b)) .1 (omega arith));
       }
 
-  tension-flows : {trial A B : Frac} → tension .yield ≤F A → compression .yield ≤F B → tension .limit A <F trial
+  pub tension-flows : {trial A B : Frac} → tension .yield ≤F A → compression .yield ≤F B → tension .limit A <F trial
       → let A′ = flowed tension trial A in Asymmetric tension compression trial A B (tension .limit A′) A′ B
   tension-flows {trial} {A} {B} p p′ h =
       record {

@@ -146,7 +146,7 @@ module _ {E tangent : ℕ} {below : tangent < E} {yield : Frac} (positive : whol
       centres : X′ ≈F X″
       centres = sub-injective stress X′ X″ (≈F-trans relative (sub-same (≈F-sym stresses) (≈F-refl X″)))
 
-  kinematic-rests : {trial X : Frac} → absF (trial -F X) ≤F yield → Kinematic E tangent below yield trial X trial X (absF (trial -F trial))
+  pub kinematic-rests : {trial X : Frac} → absF (trial -F X) ≤F yield → Kinematic E tangent below yield trial X trial X (absF (trial -F trial))
   kinematic-rests {trial} {X} h =
       record {
         inside = h;
@@ -162,7 +162,7 @@ module _ {E tangent : ℕ} {below : tangent < E} {yield : Frac} (positive : whol
       nought : (trial -F trial) ≈F absF (trial -F trial)
       nought = at-common (trial ∷ []) (λ d ((_, _, t), _). is-eq (is-sub t t) (is-abs (is-sub t t)) .1 (omega arith))
 
-  kinematic-flows : {trial X : Frac} (h : 0 < E) → yield <F absF (trial -F X)
+  pub kinematic-flows : {trial X : Frac} (h : 0 < E) → yield <F absF (trial -F X)
       → let v = trial -F X in let X′ = X +F signedF v (timesF (absF v -F yield) tangent E h) in let stress = X′ +F signedF v yield in
       Kinematic E tangent below yield trial X stress X′ (absF (trial -F stress))
   kinematic-flows {trial} {X} h l =

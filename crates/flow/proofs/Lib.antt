@@ -2,3 +2,4 @@ pub mod OneSide
 pub mod Isotropic
 pub mod Asymmetric
 pub mod Kinematic
+pub mod Rounding

@@ -1,3 +1,5 @@
 pub mod Side
 pub mod Conditions
 pub mod Solution
+pub mod Rounded
+pub mod Stored

@@ -1,14 +1,15 @@
 -- Every operation on fractions respects "the same number"; sums are monotone; "within k" is two inequalities.
-use mathlib.Core.Path.{refl}
+use mathlib.Core.Path.{_≡_, refl}
 use mathlib.Core.List.{[], _∷_}
 use mathlib.Core.Logic.{_↔_}
 use Prim.Native.Nat.{ℕ, _+_, _*_, _≤_, _<_, max, min}
 use native.Mathlib.Nat.{mul-le-mul-left, mul-lt-mul-of-pos-left, lt-of-mul-lt-mul-left, eq-of-mul-eq-mul-left}
 use native.Mathlib.Decide.{decLe}
 use native.Mathlib.Omega.{arith}
-use lib.IntN.{pos}
-use Rattle.fractions.specs.Fraction.{Frac, _≤F_, _<F_, _≈F_, whole, _+F_, negF, _-F_, absF, signedF, timesF, Within}
-use Rattle.fractions.proofs.Common.{Is, is-own, is-same, is-scale, is-whole, is-add, is-neg, is-sub, is-abs, is-signed-up, is-signed-dn, is-times, is-le, is-lt, is-eq, at-common}
+use lib.IntN.{ℤ, pos, negℤ, natAbs, _+ℤ_, _-ℤ_}
+use Rattle.fractions.specs.Fraction.{Frac, _≤F_, _<F_, _≈F_, whole, _+F_, negF, _-F_, absF, signed, signedF, timesF, Within}
+use Rattle.fractions.proofs.Parts.{add-parts, sub-parts-ℤ}
+use Rattle.fractions.proofs.Common.{Is, is-own, is-same, is-scale, is-whole, is-whole-one, is-add, is-neg, is-sub, is-abs, is-signed-up, is-signed-dn, is-times, is-le, is-lt, is-eq, at-common}
 
 pub add-same : {w x y z : Frac} → w ≈F x → y ≈F z → (w +F y) ≈F (x +F z)
 add-same {w} {x} {y} {z} e f =
@@ -102,3 +103,23 @@ add-then-sub x y = at-common (x ∷ y ∷ []) (λ d ((_, _, i), ((_, _, j), _)).
 pub times-times : (x : Frac) (t k e : ℕ) (h : 0 < k) (g : 0 < e) → timesF (timesF x k e g) t k h ≈F timesF x t e g
 times-times x t k e h g =
     at-common (x ∷ []) (λ d ((_, _, i), _). is-eq (is-times t k h (is-times k e g i)) (is-scale k h (is-times t e g i)) .1 (omega arith))
+
+-- ---- Whole numbers: the operations are those of the whole numbers
+
+pub whole-abs : (z : ℤ) → absF (whole z) ≡ whole (pos (natAbs z))
+unfolding absF whole
+whole-abs z = refl
+
+pub whole-neg : (z : ℤ) → negF (whole z) ≡ whole (negℤ z)
+unfolding negF whole
+whole-neg z = refl
+
+pub whole-signed : (s z : ℤ) → signedF (whole s) (whole z) ≡ whole (signed s z)
+unfolding signedF whole
+whole-signed s z = refl
+
+pub whole-add : (y z : ℤ) → (whole y +F whole z) ≈F whole (y +ℤ z)
+whole-add y z = is-eq (is-add (is-whole-one y) (is-whole-one z)) (is-whole-one (y +ℤ z)) .1 (omega (arith, add-parts y z))
+
+pub whole-sub : (y z : ℤ) → (whole y -F whole z) ≈F whole (y -ℤ z)
+whole-sub y z = is-eq (is-sub (is-whole-one y) (is-whole-one z)) (is-whole-one (y -ℤ z)) .1 (omega (arith, sub-parts-ℤ y z))

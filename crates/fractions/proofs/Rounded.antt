@@ -1,16 +1,17 @@
 -- Rounding down and rounding up: what they mean over a denominator, and that each gives one whole number.
 use mathlib.Core.Path.{_≡_, ap}
+use mathlib.Core.List.{[], _∷_}
 use mathlib.Core.Logic.{_↔_}
-use Prim.Native.Nat.{ℕ, zero, suc, _+_, _*_, _/_, _≤_, _<_}
-use native.Mathlib.Nat.{mul-div-le, lt-mul-div-succ}
+use Prim.Native.Nat.{ℕ, zero, suc, _+_, _-_, _*_, _/_, _≤_, _<_}
+use native.Mathlib.Nat.{mul-div-le, lt-mul-div-succ, mul-le-mul-left, lt-of-mul-lt-mul-left, le-dest}
 use native.Mathlib.Omega.{arith}
 use lib.IntN.{ℤ, pos, _+ℤ_, _-ℤ_}
 use lib.Signed.{_≤ℤ_}
-use Rattle.fractions.specs.Fraction.{Frac, _≤F_, _<F_, _≈F_, whole}
+use Rattle.fractions.specs.Fraction.{Frac, _≤F_, _<F_, _≈F_, whole, _+F_, _-F_}
 use Rattle.fractions.specs.Rounding.{Floor, Ceiling}
 use Rattle.fractions.proofs.Parts.{up, dn, equal-parts, add-parts, sub-parts-ℤ, le-of-parts, lt-parts}
 use Rattle.fractions.proofs.Order.{≤ℤ-antisym}
-use Rattle.fractions.proofs.Common.{Is, is-whole, is-whole-one, is-le, is-lt}
+use Rattle.fractions.proofs.Common.{Is, is-whole, is-whole-one, is-add, is-sub, is-le, is-lt, at-common}
 use Rattle.fractions.proofs.Comparison.{≤F-of-≈F, ≈F-sym, ≤F-trans, ≤F-<F-trans, <F-≤F-trans, whole-le, whole-lt}
 
 module _ {x : Frac} {p n d : ℕ} (i : Is x p n d) (z : ℤ) where
@@ -82,3 +83,27 @@ ceiling-decides {x} {z} f a =
 pub floor-quotient : {x : Frac} {p d : ℕ} → Is x p 0 d → Floor x (pos (p / d))
 floor-quotient {x} {p} {d} i =
     is-floor i (pos (p / d)) .1 (omega (arith, mul-div-le p d), omega (arith, lt-mul-div-succ p (i .some)))
+
+-- A natural passes a fraction where it passes its floor; what it has beyond the floor is what it has beyond the fraction, rounded up.
+module _ {x : Frac} {R : ℕ} (f : Floor x (pos R)) (m : ℕ) where
+  pub floor-passed : (x <F whole (pos m)) ↔ (R < m)
+  floor-passed =
+      at-common (x ∷ [])
+      (λ d ((p, n, i), _).
+      let (low, high) = is-floor i (pos R) .0 f in (
+        λ l. lt-of-mul-lt-mul-left d (omega (arith, is-lt i (is-whole (pos m) (i .some)) .0 l)),
+        λ l. is-lt i (is-whole (pos m) (i .some)) .1 (omega (arith, mul-le-mul-left d l)),
+      ))
+
+  pub excess-ceiling : (a : ℕ) → R ≤ m → Ceiling (whole (pos a) +F (whole (pos m) -F x)) (pos (a + (m - R)))
+  excess-ceiling a h = go (le-dest h)
+    where
+      go : (k : ℕ) × (R + k ≡ m) → Ceiling (whole (pos a) +F (whole (pos m) -F x)) (pos (a + (m - R)))
+      go (k, e) =
+          let rest : m - R ≡ k = omega arith in
+          rw rest
+          (at-common (x ∷ [])
+          (λ d ((p, n, i), _).
+          let (low, high) = is-floor i (pos R) .0 f in
+          let s = is-add (is-whole (pos a) (i .some)) (is-sub (is-whole (pos m) (i .some)) i) in
+          is-ceiling s (pos (a + k)) .1 (omega (arith, ap (λ (n : ℕ). d * n) e), omega (arith, ap (λ (n : ℕ). d * n) e))))

@@ -1,0 +1,41 @@
+-- What is stored of a candidate that meets the conditions from whole numbers: the stated roundings (document 01, The conditions of one
+-- pair), and where plastic strain did not grow the candidate's own numbers. Definitions only; nothing is assumed.
+use mathlib.Core.Path.{_≡_}
+use Prim.Native.Nat.{ℕ}
+use lib.IntN.{ℤ, pos, negℤ, _+ℤ_, _-ℤ_}
+use Rattle.fractions.specs.Fraction.{Frac, _≤F_, _<F_, _≈F_, whole, _-F_, absF, signed}
+use Rattle.fractions.specs.Rounding.{Floor, Ceiling}
+use Rattle.flow.specs.Side.{Side, accumulated}
+
+-- "The exact new abscissa .. is rounded up to a whole grain."
+pub record AbscissaRounded (side : Side) (A : ℕ) (B : Frac) (stored : ℕ) : Type 0 where
+  pub grown : accumulated side (whole (pos A)) <F accumulated side B → Ceiling B (pos stored)
+  pub still : accumulated side B ≤F accumulated side (whole (pos A)) → B ≈F whole (pos stored)
+
+-- T at the stored abscissa, rounded down.
+pub record LimitRounded (side : Side) (stored R : ℕ) : Type 0 where
+  pub floor : Floor (side .limit (whole (pos stored))) (pos R)
+
+-- Isotropic, for the candidate (q, B): "the stress is T there, rounded down, with the sign of s".
+pub record IsotropicRounded (side : Side) (trial : ℤ) (A : ℕ) (q B : Frac) (stress : ℤ) (stored : ℕ) : Type 0 where
+  pub abscissa : AbscissaRounded side A B stored
+  pub grown : accumulated side (whole (pos A)) <F accumulated side B → (R : ℕ) × LimitRounded side stored R × (stress ≡ signed trial (pos R))
+  pub still : accumulated side B ≤F accumulated side (whole (pos A)) → q ≈F whole stress
+
+-- Kinematic, for the candidate (q, X′, growth): "X moves toward s by (|s - X| - yield) times tangent / E, rounded down, and the stress lies
+-- one radius beyond it".
+pub record KinematicRounded (yield : ℕ) (trial X : ℤ) (q X′ growth : Frac) (stress stored : ℤ) : Type 0 where
+  pub grown : whole (pos 0) <F growth
+      → (move : ℕ) × Floor (absF (X′ -F whole X)) (pos move) × (stored ≡ X +ℤ signed (trial -ℤ X) (pos move))
+      × (stress ≡ stored +ℤ signed (trial -ℤ X) (pos yield))
+  pub still : growth ≤F whole (pos 0) → (X′ ≈F whole stored) × (q ≈F whole stress)
+
+-- Asymmetric, for the candidate (q, A′, B′): the side that flowed as in the isotropic law, the other one as it was.
+pub record AsymmetricRounded (tension compression : Side) (A B : ℕ) (q A′ B′ : Frac) (stress : ℤ) (storedA storedB : ℕ) : Type 0 where
+  pub tension-abscissa : AbscissaRounded tension A A′ storedA
+  pub compression-abscissa : AbscissaRounded compression B B′ storedB
+  pub tension-grown : accumulated tension (whole (pos A)) <F accumulated tension A′ → (R : ℕ) × LimitRounded tension storedA R × (stress ≡ pos R)
+  pub compression-grown : accumulated compression (whole (pos B)) <F accumulated compression B′
+      → (R : ℕ) × LimitRounded compression storedB R × (stress ≡ negℤ (pos R))
+  pub still : accumulated tension A′ ≤F accumulated tension (whole (pos A)) → accumulated compression B′ ≤F accumulated compression (whole (pos B))
+      → q ≈F whole stress
