@@ -3,26 +3,31 @@
 use mathlib.Core.Path.{_≡_, refl, ap, sym}
 use mathlib.Core.List.{[], _∷_}
 use mathlib.Core.Bool.{true, false, false≢true}
-use mathlib.Core.Logic.{_↔_, Iff·trans}
-use Prim.Native.Nat.{ℕ, _+_, _-_, _*_, _≤_, _<_}
+use mathlib.Core.Logic.{_⊎_, inl, inr, ⊎-elim, _↔_, Iff·trans}
+use Prim.Native.Nat.{ℕ, suc, _+_, _-_, _*_, _/_, _≤_, _<_}
 use native.Mathlib.Nat.{le-dest}
 use native.Mathlib.Decide.{decLe}
 use borrow.Author.Tests.{le-leb, lt-leb}
 use native.Mathlib.Omega.{arith}
-use lib.IntN.{ℤ, pos, natAbs}
-use Rattle.fractions.specs.Fraction.{Frac, _≤F_, _<F_, _≈F_, whole, _+F_, _-F_, absF, signed}
+use lib.Dec.{lt→ltb}
+use lib.IntN.{ℤ, pos, negsuc, natAbs, _-ℤ_}
+use lib.Signed.{ltZ-yes}
+use Rattle.fractions.specs.Fraction.{Frac, _≤F_, _<F_, _≈F_, whole, _+F_, _-F_, absF, signed, signedF, timesF}
 use Rattle.fractions.specs.Rounding.{Floor, Ceiling}
-use Rattle.fractions.proofs.Common.{is-whole, is-add, is-sub, is-le, is-lt, is-eq, at-common}
-use Rattle.fractions.proofs.Comparison.{≤F-antisym, ≈F-sym, ≈F-trans, ≈F-refl, <F-not-≤F}
-use Rattle.fractions.proofs.Arithmetic.{signed-same, whole-abs, whole-neg, whole-signed, whole-add, whole-sub}
-use Rattle.fractions.proofs.Rounded.{floor-passed, excess-ceiling, ceiling-same}
+use Rattle.fractions.proofs.Common.{is-same, is-whole-one, is-whole, is-add, is-neg, is-sub, is-le, is-lt, is-eq, at-common}
+use Rattle.fractions.proofs.Comparison.{≤F-antisym, ≤F-trans, ≤F-of-≈F, ≤F-of-not-<F, ≈F-sym, ≈F-trans, ≈F-refl, <F-not-≤F, whole-lt}
+use Rattle.fractions.proofs.Arithmetic.{sub-same, abs-same, add-then-sub, times-same, times-not-negative, neg-same, signed-same, whole-abs, whole-neg, whole-signed, whole-add, whole-sub}
+use Rattle.fractions.proofs.Rounded.{floor-passed, floor-same, floor-times, excess-ceiling, ceiling-same}
+use Rattle.fractions.proofs.Signs.{abs-signed}
 use Rattle.flow.specs.Side.{Side, accumulated, Hardens}
-use Rattle.flow.specs.Conditions.{OnSide, Isotropic}
+use Rattle.flow.specs.Conditions.{OnSide, Isotropic, Kinematic, Asymmetric}
 use Rattle.flow.specs.Solution.{flowed}
-use Rattle.flow.specs.Rounded.{AbscissaRounded, LimitRounded, IsotropicRounded}
-use Rattle.flow.specs.Stored.{SideStored, sideStored, IsotropicStored, isotropicStored}
-use Rattle.flow.proofs.OneSide.{accumulated-injective, grows-past-limit}
+use Rattle.flow.specs.Rounded.{AbscissaRounded, LimitRounded, IsotropicRounded, KinematicRounded, AsymmetricRounded}
+use Rattle.flow.specs.Stored.{SideStored, sideStored, IsotropicStored, isotropicStored, KinematicStored, kinematicStored, AsymmetricStored, asymmetricStored}
+use Rattle.flow.proofs.OneSide.{accumulated-injective, grows-past-limit, limit-positive}
 use Rattle.flow.proofs.Isotropic.{magnitudes-balance, sign-of-trial}
+use Rattle.flow.proofs.Kinematic.{kinematic-grows, kinematic-unique, kinematic-rests, kinematic-flows}
+use Rattle.flow.proofs.Asymmetric.{mirrored, negated-twice, asymmetric-grows, tension-alone}
 
 module _ {side : Side} {trial A q B : Frac} (h : OnSide side A q B) (e : trial ≈F (q +F (accumulated side B -F accumulated side A))) where
   -- Where plastic strain grew the abscissa is the one of the step,
@@ -102,3 +107,122 @@ isotropic-rounded {side} curve {limit} floor {A} p trial {q} {B} s = (
   where
     r : SideRounded side A (absF q) B (sideStored limit (natAbs trial) A)
     r = side-rounded curve floor p (natAbs trial) (s .side-holds) (rw whole-abs at (magnitudes-balance s))
+
+-- ---- Law 3
+
+-- A trial that is not negative leaves compression as it was, and tension rounds it.
+tension-rounded : {tension compression : Side} → Hardens tension → Hardens compression → {limit : ℕ → ℕ}
+    → ((a : ℕ) → LimitRounded tension a (limit a)) → (A B m : ℕ) → tension .yield ≤F whole (pos A) → compression .yield ≤F whole (pos B)
+    → {q A′ B′ : Frac} → Asymmetric tension compression (whole (pos m)) (whole (pos A)) (whole (pos B)) q A′ B′
+    → SideRounded tension A q A′ (sideStored limit m A) × AbscissaRounded compression B B′ B
+    × ¬ (accumulated compression (whole (pos B)) <F accumulated compression B′)
+tension-rounded {tension} {compression} curve curve′ floor A B m p p′ {q} {A′} {B′} s = (
+  side-rounded curve floor p m (s .tension-holds) (tension-alone curve curve′ s stays),
+  record { grown = λ g. absurd (stays g); still = λ g. accumulated-injective curve′ (s .compression-holds .past) p′ (≤F-antisym g (s .compression-holds .keeps)) },
+  stays,
+)
+  where
+    stays : ¬ (accumulated compression (whole (pos B)) <F accumulated compression B′)
+    stays g =
+        at-common (whole (pos m) ∷ compression .limit (whole (pos B)) ∷ [])
+        (λ d ((_, _, t), ((_, _, r), _)).
+        omega (
+          arith,
+          is-lt r (is-neg (is-whole (pos m) (t .some))) .0 (asymmetric-grows curve curve′ p p′ s .1 .0 g),
+          is-lt (is-whole (pos 0) (t .some)) r .0 (limit-positive curve′ p′),
+        ))
+
+pub asymmetric-rounded : {tension compression : Side} → Hardens tension → Hardens compression → {limitT limitC : ℕ → ℕ}
+    → ((a : ℕ) → LimitRounded tension a (limitT a)) → ((a : ℕ) → LimitRounded compression a (limitC a)) → {A B : ℕ}
+    → tension .yield ≤F whole (pos A) → compression .yield ≤F whole (pos B) → (trial : ℤ) {q A′ B′ : Frac}
+    → Asymmetric tension compression (whole trial) (whole (pos A)) (whole (pos B)) q A′ B′
+    → let stored = asymmetricStored limitT limitC trial A B in
+    AsymmetricRounded tension compression A B q A′ B′ (stored .stress) (stored .tension) (stored .compression)
+    × ((stored .yielded ≡ true)
+    ↔ ((accumulated tension (whole (pos A)) <F accumulated tension A′) ⊎ (accumulated compression (whole (pos B)) <F accumulated compression B′)))
+unfolding asymmetricStored
+asymmetric-rounded curve curve′ {limitT} {limitC} floorT floorC {A} {B} p p′ (pos m) {q} s =
+    let (r, kept, stays) = tension-rounded curve curve′ floorT A B m p p′ s in (
+      record {
+        tension-abscissa = r .abscissa;
+        compression-abscissa = kept;
+        tension-grown = λ g. (sideStored limitT m A .magnitude, r .grown g, refl);
+        compression-grown = λ g. absurd (stays g);
+        still = λ g g′. r .still g;
+      },
+      (λ y. inl (r .yields .0 y), ⊎-elim (r .yields .1) (λ g. absurd (stays g))),
+    )
+asymmetric-rounded curve curve′ {limitT} {limitC} floorT floorC {A} {B} p p′ (negsuc n) {q} s =
+    let (r, kept, stays) = tension-rounded curve′ curve floorC B A (suc n) p′ p (rw whole-neg at (mirrored s)) in (
+      record {
+        tension-abscissa = kept;
+        compression-abscissa = r .abscissa;
+        tension-grown = λ g. absurd (stays g);
+        compression-grown = λ g. (sideStored limitC (suc n) B .magnitude, r .grown g, refl);
+        still = λ g g′. ≈F-trans (negated-twice q) (rw (← whole-neg (pos (sideStored limitC (suc n) B .magnitude))) (neg-same (r .still g′)));
+      },
+      (λ y. inr (r .yields .0 y), ⊎-elim (λ g. absurd (stays g)) (r .yields .1)),
+    )
+
+-- ---- Law 2
+
+module _ {E tangent : ℕ} {below : tangent < E} (E-pos : 0 < E) {yield : ℕ} (yield-pos : 0 < yield) (trial X : ℤ) {q X′ growth : Frac}
+    (s : Kinematic E tangent below (whole (pos yield)) (whole trial) (whole X) q X′ growth) where
+  positive : whole (pos 0) <F whole (pos yield)
+  positive = whole-lt (pos 0) (pos yield) .1 (ltZ-yes (lt→ltb 0 yield yield-pos))
+
+  distance : absF (whole trial -F whole X) ≈F whole (pos (natAbs (trial -ℤ X)))
+  distance = rw whole-abs at (abs-same (whole-sub trial X))
+
+  passes : (whole (pos yield) <F absF (whole trial -F whole X)) ↔ (yield < natAbs (trial -ℤ X))
+  passes =
+      let i = is-same (≈F-sym distance) (is-whole-one (pos (natAbs (trial -ℤ X)))) in
+      (λ l. omega (arith, is-lt (is-whole-one (pos yield)) i .0 l), λ l. is-lt (is-whole-one (pos yield)) i .1 (omega arith))
+
+  -- Past the radius the centre moves by the excess times tangent / E.
+  centre-moves : yield < natAbs (trial -ℤ X) → absF (X′ -F whole X) ≈F timesF (whole (pos (natAbs (trial -ℤ X) - yield))) tangent E E-pos
+  centre-moves l =
+      ≈F-trans (abs-same (≈F-trans (sub-same flowed-centre (≈F-refl (whole X))) (add-then-sub (whole X) (signedF v (timesF e tangent E E-pos)))))
+      (≈F-trans (abs-signed v (times-not-negative e tangent E E-pos (≤F-trans zero (≤F-of-≈F (≈F-sym excess))))) (times-same tangent E E-pos excess))
+    where
+      v : Frac
+      v = whole trial -F whole X
+
+      e : Frac
+      e = absF v -F whole (pos yield)
+
+      flowed-centre : X′ ≈F (whole X +F signedF v (timesF e tangent E E-pos))
+      flowed-centre = kinematic-unique positive s (kinematic-flows positive E-pos (passes .1 l)) .1
+
+      excess : e ≈F whole (pos (natAbs (trial -ℤ X) - yield))
+      excess = is-eq (is-sub (is-same (≈F-sym distance) (is-whole-one (pos (natAbs (trial -ℤ X))))) (is-whole-one (pos yield))) (is-whole-one (pos (natAbs (trial -ℤ X) - yield))) .1 (omega arith)
+
+      zero : whole (pos 0) ≤F whole (pos (natAbs (trial -ℤ X) - yield))
+      zero = is-le (is-whole-one (pos 0)) (is-whole-one (pos (natAbs (trial -ℤ X) - yield))) .1 (omega arith)
+
+  pub kinematic-rounded : let stored = kinematicStored E tangent yield trial X in
+      KinematicRounded yield trial X q X′ growth (stored .stress) (stored .centre) × ((stored .yielded ≡ true) ↔ (whole (pos 0) <F growth))
+  unfolding kinematicStored
+  kinematic-rounded = go (decLe (natAbs (trial -ℤ X)) yield)
+    where
+      grows : (whole (pos 0) <F growth) ↔ (yield < natAbs (trial -ℤ X))
+      grows = Iff·trans (kinematic-grows positive s) passes
+
+      go : Dec (natAbs (trial -ℤ X) ≤ yield)
+          → let stored = kinematicStored E tangent yield trial X in
+          KinematicRounded yield trial X q X′ growth (stored .stress) (stored .centre) × ((stored .yielded ≡ true) ↔ (whole (pos 0) <F growth))
+      go (yes l) =
+          let stays : ¬ (whole (pos 0) <F growth) = λ g. let past = grows .0 g in omega arith in
+          let (stress, centre, _) = kinematic-unique positive s (kinematic-rests positive (≤F-of-not-<F (λ g. let past = passes .0 g in omega arith))) in
+          rw (le-leb (natAbs (trial -ℤ X)) yield l)
+          (record { grown = λ g. absurd (stays g); still = λ g. (centre, stress) }, (λ t. absurd (false≢true t), λ g. absurd (stays g)))
+      go (no l) =
+          let past : yield < natAbs (trial -ℤ X) = omega arith in
+          let move = (natAbs (trial -ℤ X) - yield) * tangent / E in
+          rw (lt-leb (natAbs (trial -ℤ X)) yield past) (
+            record {
+              grown = λ g. (move, floor-same (pos move) (≈F-sym (centre-moves past)) (floor-times (natAbs (trial -ℤ X) - yield) tangent E E-pos), refl, refl);
+              still = λ g. absurd (<F-not-≤F (grows .1 past) g);
+            },
+            (λ t. grows .1 past, λ g. refl),
+          )

@@ -3,15 +3,15 @@ use mathlib.Core.Path.{_≡_, ap}
 use mathlib.Core.List.{[], _∷_}
 use mathlib.Core.Logic.{_↔_}
 use Prim.Native.Nat.{ℕ, zero, suc, _+_, _-_, _*_, _/_, _≤_, _<_}
-use native.Mathlib.Nat.{mul-div-le, lt-mul-div-succ, mul-le-mul-left, lt-of-mul-lt-mul-left, le-dest}
+use native.Mathlib.Nat.{mul-div-le, lt-mul-div-succ, mul-le-mul-left, lt-of-mul-lt-mul-left, le-dest, mul-one}
 use native.Mathlib.Omega.{arith}
 use lib.IntN.{ℤ, pos, _+ℤ_, _-ℤ_}
 use lib.Signed.{_≤ℤ_}
-use Rattle.fractions.specs.Fraction.{Frac, _≤F_, _<F_, _≈F_, whole, _+F_, _-F_}
+use Rattle.fractions.specs.Fraction.{Frac, _≤F_, _<F_, _≈F_, whole, _+F_, _-F_, timesF}
 use Rattle.fractions.specs.Rounding.{Floor, Ceiling}
 use Rattle.fractions.proofs.Parts.{up, dn, equal-parts, add-parts, sub-parts-ℤ, le-of-parts, lt-parts}
 use Rattle.fractions.proofs.Order.{≤ℤ-antisym}
-use Rattle.fractions.proofs.Common.{Is, is-whole, is-whole-one, is-add, is-sub, is-le, is-lt, at-common}
+use Rattle.fractions.proofs.Common.{Is, is-whole, is-whole-one, is-shift, is-add, is-sub, is-times, is-le, is-lt, at-common}
 use Rattle.fractions.proofs.Comparison.{≤F-of-≈F, ≈F-sym, ≤F-trans, ≤F-<F-trans, <F-≤F-trans, whole-le, whole-lt}
 
 module _ {x : Frac} {p n d : ℕ} (i : Is x p n d) (z : ℤ) where
@@ -107,3 +107,7 @@ module _ {x : Frac} {R : ℕ} (f : Floor x (pos R)) (m : ℕ) where
           let (low, high) = is-floor i (pos R) .0 f in
           let s = is-add (is-whole (pos a) (i .some)) (is-sub (is-whole (pos m) (i .some)) i) in
           is-ceiling s (pos (a + k)) .1 (omega (arith, ap (λ (n : ℕ). d * n) e), omega (arith, ap (λ (n : ℕ). d * n) e))))
+
+-- A natural times t / e, rounded down, is a quotient.
+pub floor-times : (k t e : ℕ) (h : 0 < e) → Floor (timesF (whole (pos k)) t e h) (pos (k * t / e))
+floor-times k t e h = floor-quotient (rw mul-one at (is-shift (k * t) 0 (omega arith) (is-times t e h (is-whole-one (pos k)))))
