@@ -3,16 +3,16 @@
 use mathlib.Core.Bool.{true, false}
 use mathlib.Core.Path.{_≡_}
 use mathlib.Core.List.{[], _∷_}
-use mathlib.Core.Logic.{_⊎_, inl, inr, _↔_, ⊎-elim}
+use mathlib.Core.Logic.{_⊎_, inl, inr, _↔_}
 use native.Mathlib.Omega.{arith}
 use lib.IntN.{pos}
-use Rattle.fractions.specs.Fraction.{Frac, _≤F_, _<F_, _≈F_, leF, whole, _+F_, negF, _-F_}
+use Rattle.fractions.specs.Fraction.{Frac, _≤F_, _<F_, _≈F_, leF, _+F_, negF, _-F_}
 use Rattle.fractions.proofs.Common.{is-own, is-whole, is-add, is-neg, is-sub, is-le, is-lt, is-eq, at-common}
-use Rattle.fractions.proofs.Comparison.{≤F-antisym, ≤F-trans, <F-not-≤F, <F-≤F-trans, ≤F-<F-trans, ≤F-of-<F, ≤F-of-≈F, ≤F-of-not-<F, <F-of-not-≤F, ≤F-or-<F, ≈F-sym, ≈F-trans, ≈F-refl, leF-cases}
+use Rattle.fractions.proofs.Comparison.{≤F-antisym, ≤F-trans, <F-not-≤F, ≤F-<F-trans, ≤F-of-<F, ≤F-of-≈F, ≤F-of-not-<F, ≈F-sym, ≈F-trans, ≈F-refl, leF-cases}
 use Rattle.fractions.proofs.Arithmetic.{sub-same}
 use Rattle.flow.specs.Side.{Side, accumulated, Hardens}
 use Rattle.flow.specs.Conditions.{OnSide, Asymmetric}
-use Rattle.flow.specs.Solution.{AsymmetricMoved, flowed, asymmetric}
+use Rattle.flow.specs.Solution.{flowed, asymmetric}
 use Rattle.flow.proofs.OneSide.{more-strain-more-stress, accumulated-injective, grows-past-limit, limit-positive, rests, flows, flow-balances, on-side-same}
 
 pub negated-twice : (x : Frac) → x ≈F negF (negF x)

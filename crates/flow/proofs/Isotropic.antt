@@ -2,18 +2,15 @@
 -- when the trial passes the limit.
 use mathlib.Core.Bool.{true, false}
 use mathlib.Core.Path.{_≡_}
-use mathlib.Core.List.{[], _∷_}
 use mathlib.Core.Logic.{_⊎_, inl, inr, _↔_}
-use native.Mathlib.Omega.{arith}
 use lib.IntN.{pos}
 use Rattle.fractions.specs.Fraction.{Frac, _≤F_, _<F_, _≈F_, leF, whole, _+F_, _-F_, absF, signedF}
-use Rattle.fractions.proofs.Common.{is-own, is-whole, is-sub, is-signed-up, is-le, is-eq, at-common}
 use Rattle.fractions.proofs.Comparison.{≤F-of-<F, ≈F-sym, ≈F-trans, ≈F-refl, leF-cases}
 use Rattle.fractions.proofs.Arithmetic.{signed-same}
 use Rattle.fractions.proofs.Signs.{abs-signed, like-signs-abs, like-signs-sign, signed-rest, nought-signed}
 use Rattle.flow.specs.Side.{Side, accumulated, Hardens}
 use Rattle.flow.specs.Conditions.{OnSide, Isotropic}
-use Rattle.flow.specs.Solution.{Moved, flowed, isotropic}
+use Rattle.flow.specs.Solution.{flowed, isotropic}
 use Rattle.flow.proofs.OneSide.{one-side-unique, grows-past-limit, limit-positive, rests, flows, flow-balances, on-side-same, growth-not-negative}
 
 module _ {side : Side} {trial A stress A′ : Frac} (s : Isotropic side trial A stress A′) where

@@ -17,7 +17,7 @@ use Rattle.fractions.proofs.Arithmetic.{add-same, sub-same, abs-same, add-then-
 use Rattle.fractions.proofs.Signs.{abs-signed, abs-not-negative, nought-signed, signed-signed, like-signs-abs, like-signs-sign, times-signed}
 use Rattle.flow.specs.Side.{Side, accumulated, Hardens}
 use Rattle.flow.specs.Conditions.{OnSide, Kinematic}
-use Rattle.flow.specs.Solution.{Moved, kinematic}
+use Rattle.flow.specs.Solution.{kinematic}
 use Rattle.flow.proofs.OneSide.{one-side-unique, grows-past-limit}
 
 -- A limit that never rises.

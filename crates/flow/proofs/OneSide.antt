@@ -1,10 +1,9 @@
 -- One side of a curve, on magnitudes: what laws 0, 1 and both sides of law 3 share, and law 2 about its centre.
 use mathlib.Core.List.{[], _∷_}
 use mathlib.Core.Logic.{⊎-elim, _↔_}
-use Prim.Native.Nat.{ℕ}
 use native.Mathlib.Omega.{arith}
 use lib.IntN.{pos}
-use Rattle.fractions.specs.Fraction.{Frac, _≤F_, _<F_, _≈F_, whole, _+F_, negF, _-F_}
+use Rattle.fractions.specs.Fraction.{Frac, _≤F_, _<F_, _≈F_, whole, _+F_, _-F_}
 use Rattle.fractions.proofs.Common.{is-whole, is-add, is-sub, is-le, is-lt, is-eq, at-common}
 use Rattle.fractions.proofs.Comparison.{≤F-refl, ≤F-trans, <F-≤F-trans, ≤F-<F-trans, ≤F-of-<F, ≤F-of-≈F, ≈F-sym, ≈F-trans, ≈F-refl, ≤F-cases, ≤F-of-not-<F, <F-of-not-≤F, ≤F-antisym, <F-not-≤F}
 use Rattle.fractions.proofs.Arithmetic.{sub-same}

@@ -1,5 +1,5 @@
 -- What a pair leaves stored, law by law, as it is computed from whole numbers; `limit` reads T rounded down at a whole abscissa. That these
--- numbers are the stated roundings of the only solution is proved in proofs/Rounding. Definitions only; nothing is assumed.
+-- numbers are the stated roundings of the only solution is proved in proofs/*Rounding. Definitions only; nothing is assumed.
 use mathlib.Core.Bool.{Bool, true, false, cond}
 use Prim.Native.Nat.{ℕ, suc, _+_, _-_, _*_, _/_}
 use lib.Dec.{leb}

@@ -1,15 +1,15 @@
 -- Fractions over a common denominator. `Is x p n d` says that x is (p - n) / d, all naturals. Every operation has its law here, and an
 -- order or an equation of fractions over one denominator is one of naturals, which `omega` decides; so any finite set of fractions is
 -- brought to one denominator (`common`) and settled there.
-use mathlib.Core.Path.{_≡_, refl, sym, _∙_, ap}
+use mathlib.Core.Path.{_≡_, sym, _∙_, ap}
 use mathlib.Core.List.{List, [], _∷_}
 use mathlib.Core.Logic.{_↔_}
-use Prim.Native.Nat.{ℕ, zero, suc, _+_, _*_, _≤_, _<_, min, max}
-use native.Mathlib.Nat.{mul-comm, mul-pos, mul-le-mul-left, mul-lt-mul-of-pos-left, le-of-mul-le-mul-left, lt-of-mul-lt-mul-left, eq-of-mul-eq-mul-left, le-antisymm, le-of-eq, max-eq-left, max-eq-right, min-eq-left, min-eq-right}
+use Prim.Native.Nat.{ℕ, _+_, _*_, _≤_, _<_, min, max}
+use native.Mathlib.Nat.{mul-comm, mul-pos, mul-le-mul-left, mul-lt-mul-of-pos-left, le-of-mul-le-mul-left, lt-of-mul-lt-mul-left, eq-of-mul-eq-mul-left}
 use native.Mathlib.Decide.{decLe}
 use native.Mathlib.Omega.{arith}
 use lib.Dec.{lit<}
-use lib.IntN.{ℤ, pos, negsuc, negℤ, natAbs, _+ℤ_, _*ℤ_}
+use lib.IntN.{ℤ, pos, negsuc, natAbs, _*ℤ_}
 use Rattle.fractions.specs.Fraction.{Frac, _≤F_, _<F_, _≈F_, whole, _+F_, negF, _-F_, absF, signed, signedF, timesF}
 use Rattle.fractions.proofs.Parts.{up, dn, equal-parts, add-parts, neg-parts, times-parts, le-parts, le-of-parts, lt-parts, lt-of-parts}
 

@@ -2,7 +2,7 @@
 -- The facts are linear in the function, so sums and multiples of concave functions are concave.
 use mathlib.Core.Path.{_≡_}
 use mathlib.Core.Logic.{_⊎_, inl, inr}
-use Prim.Native.Nat.{ℕ, _+_, _*_, _≤_, _<_, min}
+use Prim.Native.Nat.{ℕ, _+_, _*_, _≤_, min}
 use native.Mathlib.Nat.{mul-le-mul-left, mul-le-mul-right, min-eq-left, min-eq-right, le-trans, le-add-right, le-dest}
 use native.Mathlib.Omega.{arith}
 use Rattle.fractions.proofs.Secant.{le-or-ge}

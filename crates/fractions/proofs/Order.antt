@@ -1,11 +1,11 @@
 -- The order of the whole numbers: a total, decidable order that sums, negations and positive factors respect.
 use mathlib.Core.Path.{_≡_}
 use mathlib.Core.Logic.{_⊎_, inl, inr}
-use Prim.Native.Nat.{ℕ, _+_, _*_, _≤_, _<_}
+use Prim.Native.Nat.{ℕ, _+_, _≤_, _<_}
 use native.Mathlib.Nat.{mul-le-mul-left, le-of-mul-le-mul-left}
 use native.Mathlib.Decide.{decLe, map-dec}
 use native.Mathlib.Omega.{arith}
-use lib.IntN.{ℤ, pos, negℤ, natAbs, _+ℤ_, _-ℤ_, _*ℤ_}
+use lib.IntN.{ℤ, pos, negℤ, _+ℤ_, _*ℤ_}
 use lib.Signed.{_≤ℤ_, _<ℤ_}
 use Rattle.fractions.proofs.Parts.{up, dn, equal-parts, add-parts, neg-parts, times-parts, le-parts, le-of-parts, lt-parts, lt-of-parts}
 

@@ -1,13 +1,12 @@
 -- A whole number is the difference of two naturals, one of them nought: z = up z - dn z. `omega` reads naturals alone, so a fact about
 -- whole numbers is handed to it through these parts.
 use mathlib.Core.Path.{_≡_, refl, sym, _∙_, ap}
-use mathlib.Core.Logic.{_↔_, _⊎_, inl, inr}
-use Prim.Native.Nat.{ℕ, zero, suc, _+_, _-_, _*_, _≤_, _<_, min, max}
+use Prim.Native.Nat.{ℕ, zero, suc, _+_, _-_, _*_, _≤_, _<_, min}
 use native.Mathlib.Nat.{mul-zero}
 use native.Mathlib.Omega.{arith}
 use lib.Dec.{ltb, leb→le, le→leb, ltb→lt, lt→ltb, nltb→le}
 use mathlib.Core.Bool.{Bool, true, false, cond}
-use lib.IntN.{ℤ, pos, negsuc, negℤ, natAbs, subℕ, _+ℤ_, _-ℤ_, _*ℤ_, *ℤ-comm}
+use lib.IntN.{ℤ, pos, negsuc, negℤ, natAbs, subℕ, _+ℤ_, _-ℤ_, _*ℤ_}
 use lib.Signed.{_≤ℤ_, _<ℤ_, leZ-yes, ltZ-yes}
 
 abbrev pub up : ℤ → ℕ

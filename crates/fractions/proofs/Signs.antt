@@ -1,7 +1,7 @@
 -- Magnitudes and signs apart and back, and sums of numbers of one sign.
 use mathlib.Core.Path.{refl}
 use mathlib.Core.List.{[], _∷_}
-use Prim.Native.Nat.{ℕ, _+_, _*_, _≤_, _<_}
+use Prim.Native.Nat.{ℕ, _≤_, _<_}
 use native.Mathlib.Decide.{decLe}
 use native.Mathlib.Omega.{arith}
 use lib.IntN.{pos}

@@ -1,0 +1,82 @@
+-- Law 2: what is stored is the stated rounding of every candidate that meets the conditions.
+use mathlib.Core.Path.{_≡_, refl}
+use mathlib.Core.Bool.{true, false≢true}
+use mathlib.Core.Logic.{_↔_, Iff·trans}
+use Prim.Native.Nat.{ℕ, _-_, _*_, _/_, _≤_, _<_}
+use native.Mathlib.Decide.{decLe}
+use borrow.Author.Tests.{le-leb, lt-leb}
+use native.Mathlib.Omega.{arith}
+use lib.Dec.{lt→ltb}
+use lib.IntN.{ℤ, pos, natAbs, _-ℤ_}
+use lib.Signed.{ltZ-yes}
+use Rattle.fractions.specs.Fraction.{Frac, _≤F_, _<F_, _≈F_, whole, _+F_, _-F_, absF, signedF, timesF}
+use Rattle.fractions.proofs.Common.{is-same, is-whole-one, is-sub, is-le, is-lt, is-eq}
+use Rattle.fractions.proofs.Comparison.{≤F-trans, ≤F-of-≈F, ≤F-of-not-<F, ≈F-sym, ≈F-trans, ≈F-refl, <F-not-≤F, whole-lt}
+use Rattle.fractions.proofs.Arithmetic.{sub-same, abs-same, add-then-sub, times-same, times-not-negative, whole-abs, whole-sub}
+use Rattle.fractions.proofs.Rounded.{floor-same, floor-times}
+use Rattle.fractions.proofs.Signs.{abs-signed}
+use Rattle.flow.specs.Conditions.{Kinematic}
+use Rattle.flow.specs.Rounded.{KinematicRounded}
+use Rattle.flow.specs.Stored.{kinematicStored}
+use Rattle.flow.proofs.Kinematic.{kinematic-grows, kinematic-unique, kinematic-rests, kinematic-flows}
+
+module _ {E tangent : ℕ} {below : tangent < E} (E-pos : 0 < E) {yield : ℕ} (yield-pos : 0 < yield) (trial X : ℤ) {q X′ growth : Frac}
+    (s : Kinematic E tangent below (whole (pos yield)) (whole trial) (whole X) q X′ growth) where
+  positive : whole (pos 0) <F whole (pos yield)
+  positive = whole-lt (pos 0) (pos yield) .1 (ltZ-yes (lt→ltb 0 yield yield-pos))
+
+  distance : absF (whole trial -F whole X) ≈F whole (pos (natAbs (trial -ℤ X)))
+  distance = rw whole-abs at (abs-same (whole-sub trial X))
+
+  passes : (whole (pos yield) <F absF (whole trial -F whole X)) ↔ (yield < natAbs (trial -ℤ X))
+  passes =
+      let i = is-same (≈F-sym distance) (is-whole-one (pos (natAbs (trial -ℤ X)))) in
+      (λ l. omega (arith, is-lt (is-whole-one (pos yield)) i .0 l), λ l. is-lt (is-whole-one (pos yield)) i .1 (omega arith))
+
+  -- Past the radius the centre moves by the excess times tangent / E.
+  centre-moves : yield < natAbs (trial -ℤ X) → absF (X′ -F whole X) ≈F timesF (whole (pos (natAbs (trial -ℤ X) - yield))) tangent E E-pos
+  centre-moves l =
+      ≈F-trans (abs-same (≈F-trans (sub-same flowed-centre (≈F-refl (whole X))) (add-then-sub (whole X) (signedF v (timesF e tangent E E-pos)))))
+      (≈F-trans (abs-signed v (times-not-negative e tangent E E-pos (≤F-trans zero (≤F-of-≈F (≈F-sym excess))))) (times-same tangent E E-pos excess))
+    where
+      v : Frac
+      v = whole trial -F whole X
+
+      e : Frac
+      e = absF v -F whole (pos yield)
+
+      flowed-centre : X′ ≈F (whole X +F signedF v (timesF e tangent E E-pos))
+      flowed-centre = kinematic-unique positive s (kinematic-flows positive E-pos (passes .1 l)) .1
+
+      excess : e ≈F whole (pos (natAbs (trial -ℤ X) - yield))
+      excess = is-eq (is-sub (is-same (≈F-sym distance) (is-whole-one (pos (natAbs (trial -ℤ X))))) (is-whole-one (pos yield))) (is-whole-one (pos (natAbs (trial -ℤ X) - yield))) .1 (omega arith)
+
+      zero : whole (pos 0) ≤F whole (pos (natAbs (trial -ℤ X) - yield))
+      zero = is-le (is-whole-one (pos 0)) (is-whole-one (pos (natAbs (trial -ℤ X) - yield))) .1 (omega arith)
+
+  pub kinematic-rounded : let stored = kinematicStored E tangent yield trial X in
+      KinematicRounded yield trial X q X′ growth (stored .stress) (stored .centre) × ((stored .yielded ≡ true) ↔ (whole (pos 0) <F growth))
+  unfolding kinematicStored
+  kinematic-rounded = go (decLe (natAbs (trial -ℤ X)) yield)
+    where
+      grows : (whole (pos 0) <F growth) ↔ (yield < natAbs (trial -ℤ X))
+      grows = Iff·trans (kinematic-grows positive s) passes
+
+      go : Dec (natAbs (trial -ℤ X) ≤ yield)
+          → let stored = kinematicStored E tangent yield trial X in
+          KinematicRounded yield trial X q X′ growth (stored .stress) (stored .centre) × ((stored .yielded ≡ true) ↔ (whole (pos 0) <F growth))
+      go (yes l) =
+          let stays : ¬ (whole (pos 0) <F growth) = λ g. let past = grows .0 g in omega arith in
+          let (stress, centre, _) = kinematic-unique positive s (kinematic-rests positive (≤F-of-not-<F (λ g. let past = passes .0 g in omega arith))) in
+          rw (le-leb (natAbs (trial -ℤ X)) yield l)
+          (record { grown = λ g. absurd (stays g); still = λ g. (centre, stress) }, (λ t. absurd (false≢true t), λ g. absurd (stays g)))
+      go (no l) =
+          let past : yield < natAbs (trial -ℤ X) = omega arith in
+          let move = (natAbs (trial -ℤ X) - yield) * tangent / E in
+          rw (lt-leb (natAbs (trial -ℤ X)) yield past) (
+            record {
+              grown = λ g. (move, floor-same (pos move) (≈F-sym (centre-moves past)) (floor-times (natAbs (trial -ℤ X) - yield) tangent E E-pos), refl, refl);
+              still = λ g. absurd (<F-not-≤F (grows .1 past) g);
+            },
+            (λ t. grows .1 past, λ g. refl),
+          )

@@ -1,0 +1,81 @@
+-- One side, from a whole abscissa: the excess of the trial's magnitude over the limit rounded down decides as the limit itself does, and
+-- gives the exact abscissa rounded up.
+use mathlib.Core.Path.{_≡_, refl}
+use mathlib.Core.List.{[], _∷_}
+use mathlib.Core.Bool.{true, false≢true}
+use mathlib.Core.Logic.{_↔_, Iff·trans}
+use Prim.Native.Nat.{ℕ, _+_, _-_, _≤_, _<_}
+use native.Mathlib.Decide.{decLe}
+use borrow.Author.Tests.{le-leb, lt-leb}
+use native.Mathlib.Omega.{arith}
+use lib.IntN.{pos}
+use Rattle.fractions.specs.Fraction.{Frac, _≤F_, _<F_, _≈F_, whole, _+F_, _-F_}
+use Rattle.fractions.proofs.Common.{is-add, is-sub, is-le, is-eq, at-common}
+use Rattle.fractions.proofs.Comparison.{≤F-antisym, ≈F-sym, <F-not-≤F}
+use Rattle.fractions.proofs.Rounded.{floor-passed, excess-ceiling, ceiling-same}
+use Rattle.flow.specs.Side.{Side, accumulated, Hardens}
+use Rattle.flow.specs.Conditions.{OnSide}
+use Rattle.flow.specs.Solution.{flowed}
+use Rattle.flow.specs.Rounded.{AbscissaRounded, LimitRounded}
+use Rattle.flow.specs.Stored.{SideStored, sideStored}
+use Rattle.flow.proofs.OneSide.{accumulated-injective, grows-past-limit}
+
+module _ {side : Side} {trial A q B : Frac} (h : OnSide side A q B) (e : trial ≈F (q +F (accumulated side B -F accumulated side A))) where
+  -- Where plastic strain grew the abscissa is the one of the step,
+  pub grown-abscissa : accumulated side A <F accumulated side B → B ≈F flowed side trial A
+  grown-abscissa l =
+      at-common (trial ∷ A ∷ side .limit A ∷ q ∷ B ∷ side .limit B ∷ [])
+      (λ d ((_, _, t), ((_, _, a), ((_, _, r), ((_, _, i), ((_, _, b), ((_, _, s), _)))))).
+      is-eq b (is-add a (is-sub t r)) .1 (omega (arith, is-eq i s .0 (h .at-limit l), is-eq t (is-add i (is-sub (is-sub b s) (is-sub a r))) .0 e)))
+
+  -- and where it did not nothing moved.
+  pub still-stress : accumulated side B ≤F accumulated side A → q ≈F trial
+  still-stress l =
+      at-common (trial ∷ q ∷ accumulated side A ∷ accumulated side B ∷ [])
+      (λ d ((_, _, t), ((_, _, i), ((_, _, a), ((_, _, b), _)))).
+      is-eq i t .1 (omega (arith, is-le b a .0 l, is-le a b .0 (h .keeps), is-eq t (is-add i (is-sub b a)) .0 e)))
+
+  pub still-abscissa : Hardens side → side .yield ≤F A → accumulated side B ≤F accumulated side A → B ≈F A
+  still-abscissa curve p l = accumulated-injective curve (h .past) p (≤F-antisym l (h .keeps))
+
+-- What `sideStored` leaves of a candidate (q, B) on one side.
+pub record SideRounded (side : Side) (A : ℕ) (q B : Frac) (stored : SideStored) : Type 0 where
+  pub abscissa : AbscissaRounded side A B (stored .abscissa)
+  pub grown : accumulated side (whole (pos A)) <F accumulated side B → LimitRounded side (stored .abscissa) (stored .magnitude)
+  pub still : accumulated side B ≤F accumulated side (whole (pos A)) → q ≈F whole (pos (stored .magnitude))
+  pub yields : (stored .yielded ≡ true) ↔ (accumulated side (whole (pos A)) <F accumulated side B)
+
+-- On one side, from a whole abscissa and a trial of whole magnitude.
+module _ {side : Side} (curve : Hardens side) {limit : ℕ → ℕ} (floor : (a : ℕ) → LimitRounded side a (limit a)) {A : ℕ} (p : side .yield ≤F whole (pos A))
+    (m : ℕ) {q B : Frac} (h : OnSide side (whole (pos A)) q B) (e : whole (pos m) ≈F (q +F (accumulated side B -F accumulated side (whole (pos A))))) where
+  -- The limit rounded down decides the same.
+  grows-past-floor : (accumulated side (whole (pos A)) <F accumulated side B) ↔ (limit A < m)
+  grows-past-floor = Iff·trans (grows-past-limit curve p h e) (floor-passed (floor A .floor) m)
+
+  pub side-rounded : SideRounded side A q B (sideStored limit m A)
+  unfolding sideStored
+  side-rounded = go (decLe m (limit A))
+    where
+      go : Dec (m ≤ limit A) → SideRounded side A q B (sideStored limit m A)
+      go (yes l) =
+          let stays : ¬ (accumulated side (whole (pos A)) <F accumulated side B) = λ g. let passed = grows-past-floor .0 g in omega arith in
+          rw (le-leb m (limit A) l)
+          record {
+            abscissa = record { grown = λ g. absurd (stays g); still = still-abscissa h e curve p };
+            grown = λ g. absurd (stays g);
+            still = still-stress h e;
+            yields = (λ t. absurd (false≢true t), λ g. absurd (stays g));
+          }
+      go (no l) =
+          let passed : limit A < m = omega arith in
+          let grows = grows-past-floor .1 passed in
+          rw (lt-leb m (limit A) passed)
+          record {
+            abscissa = record {
+              grown = λ g. ceiling-same (pos (A + (m - limit A))) (≈F-sym (grown-abscissa h e g)) (excess-ceiling (floor A .floor) m A (omega arith));
+              still = λ g. absurd (<F-not-≤F grows g);
+            };
+            grown = λ g. floor (A + (m - limit A));
+            still = λ g. absurd (<F-not-≤F grows g);
+            yields = (λ t. grows, λ g. refl);
+          }
