@@ -1,14 +1,14 @@
 -- Law 3: what is stored is the stated rounding of every candidate that meets the conditions.
-use mathlib.Core.Path.{_≡_, refl}
+use mathlib.Core.Path.{_≡_, refl, sym, ap, _∙_}
 use mathlib.Core.List.{[], _∷_}
 use mathlib.Core.Bool.{true}
 use mathlib.Core.Logic.{_⊎_, inl, inr, ⊎-elim, _↔_}
 use Prim.Native.Nat.{ℕ, suc}
 use native.Mathlib.Omega.{arith}
-use lib.IntN.{ℤ, pos, negsuc}
+use lib.IntN.{ℤ, pos, negsuc, negℤ}
 use Rattle.fractions.specs.Fraction.{Frac, _≤F_, _<F_, whole}
 use Rattle.fractions.proofs.Common.{is-whole, is-neg, is-lt, at-common}
-use Rattle.fractions.proofs.Comparison.{≤F-antisym, ≈F-trans}
+use Rattle.fractions.proofs.Comparison.{≤F-antisym, ≈F-trans, ≤F-or-<F, ≈F-sym, whole-eq}
 use Rattle.fractions.proofs.Arithmetic.{neg-same, whole-neg}
 use Rattle.flow.specs.Side.{Side, accumulated, Hardens}
 use Rattle.flow.specs.Conditions.{Asymmetric}
@@ -16,7 +16,7 @@ use Rattle.flow.specs.Rounded.{AbscissaRounded, LimitRounded, Asymmetric
 use Rattle.flow.specs.Stored.{sideStored, asymmetricStored}
 use Rattle.flow.proofs.OneSide.{accumulated-injective, limit-positive}
 use Rattle.flow.proofs.Asymmetric.{mirrored, negated-twice, asymmetric-grows, tension-alone}
-use Rattle.flow.proofs.SideRounding.{SideRounded, side-rounded}
+use Rattle.flow.proofs.SideRounding.{SideRounded, side-rounded, abscissa-unique, limit-unique}
 
 -- A trial that is not negative leaves compression as it was, and tension rounds it.
 tension-rounded : {tension compression : Side} → Hardens tension → Hardens compression → {limit : ℕ → ℕ}
@@ -71,3 +71,31 @@ asymmetric-rounded curve curve′ {limitT} {limitC} floorT floorC {A} {B} p p′
       },
       (λ y. inr (r .yields .0 y), ⊎-elim (λ g. absurd (stays g)) (r .yields .1)),
     )
+
+-- The rounding of a candidate is one stress and one abscissa on each side.
+pub asymmetric-rounded-unique : {tension compression : Side} {A B : ℕ} {q A′ B′ : Frac} {r r′ : ℤ} {a a′ b b′ : ℕ}
+    → AsymmetricRounded tension compression A B q A′ B′ r a b → AsymmetricRounded tension compression A B q A′ B′ r′ a′ b′
+    → (r ≡ r′) × (a ≡ a′) × (b ≡ b′)
+asymmetric-rounded-unique {tension} {compression} {A} {B} {q} {A′} {B′} {r} {r′} {a} {a′} {b} {b′} s s′ = (
+  ⊎-elim (λ l. ⊎-elim (still l) compression-grown (≤F-or-<F (accumulated compression B′) (accumulated compression (whole (pos B))))) tension-grown
+      (≤F-or-<F (accumulated tension A′) (accumulated tension (whole (pos A)))),
+  same,
+  same′,
+)
+  where
+    same : a ≡ a′
+    same = abscissa-unique (s .tension-abscissa) (s′ .tension-abscissa)
+
+    same′ : b ≡ b′
+    same′ = abscissa-unique (s .compression-abscissa) (s′ .compression-abscissa)
+
+    still : accumulated tension A′ ≤F accumulated tension (whole (pos A)) → accumulated compression B′ ≤F accumulated compression (whole (pos B)) → r ≡ r′
+    still l l′ = whole-eq r r′ (≈F-trans (≈F-sym (s .still l l′)) (s′ .still l l′))
+
+    tension-grown : accumulated tension (whole (pos A)) <F accumulated tension A′ → r ≡ r′
+    tension-grown l = let (R, f, e) = s .tension-grown l in let (R′, f′, e′) = s′ .tension-grown l in
+        e ∙ ap pos (limit-unique f (rw (← same) at f′)) ∙ sym e′
+
+    compression-grown : accumulated compression (whole (pos B)) <F accumulated compression B′ → r ≡ r′
+    compression-grown l = let (R, f, e) = s .compression-grown l in let (R′, f′, e′) = s′ .compression-grown l in
+        e ∙ ap (λ (n : ℕ). negℤ (pos n)) (limit-unique f (rw (← same′) at f′)) ∙ sym e′

@@ -1,18 +1,18 @@
 -- Laws 0 and 1: what is stored is the stated rounding of every candidate that meets the conditions.
-use mathlib.Core.Path.{_≡_, refl}
+use mathlib.Core.Path.{_≡_, refl, sym, ap, _∙_}
 use mathlib.Core.Bool.{true}
-use mathlib.Core.Logic.{_↔_}
+use mathlib.Core.Logic.{_↔_, ⊎-elim}
 use Prim.Native.Nat.{ℕ}
 use lib.IntN.{ℤ, pos, natAbs}
-use Rattle.fractions.specs.Fraction.{Frac, _≤F_, _<F_, whole, absF}
-use Rattle.fractions.proofs.Comparison.{≈F-trans, ≈F-refl}
+use Rattle.fractions.specs.Fraction.{Frac, _≤F_, _<F_, whole, absF, signed}
+use Rattle.fractions.proofs.Comparison.{≈F-trans, ≈F-refl, ≤F-or-<F, ≈F-sym, whole-eq}
 use Rattle.fractions.proofs.Arithmetic.{signed-same, whole-abs, whole-signed}
 use Rattle.flow.specs.Side.{Side, accumulated, Hardens}
 use Rattle.flow.specs.Conditions.{Isotropic}
 use Rattle.flow.specs.Rounded.{LimitRounded, IsotropicRounded}
 use Rattle.flow.specs.Stored.{sideStored, isotropicStored}
 use Rattle.flow.proofs.Isotropic.{magnitudes-balance, sign-of-trial}
-use Rattle.flow.proofs.SideRounding.{SideRounded, side-rounded}
+use Rattle.flow.proofs.SideRounding.{SideRounded, side-rounded, abscissa-unique, limit-unique}
 
 pub isotropic-rounded : {side : Side} → Hardens side → {limit : ℕ → ℕ} → ((a : ℕ) → LimitRounded side a (limit a)) → {A : ℕ} → side .yield ≤F whole (pos A)
     → (trial : ℤ) {q B : Frac} → Isotropic side (whole trial) (whole (pos A)) q B
@@ -30,3 +30,18 @@ isotropic-rounded {side} curve {limit} floor {A} p trial {q} {B} s = (
   where
     r : SideRounded side A (absF q) B (sideStored limit (natAbs trial) A)
     r = side-rounded curve floor p (natAbs trial) (s .side-holds) (rw whole-abs at (magnitudes-balance s))
+
+-- The rounding of a candidate is one stress and one abscissa.
+pub isotropic-rounded-unique : {side : Side} {trial : ℤ} {A : ℕ} {q B : Frac} {r r′ : ℤ} {a a′ : ℕ}
+    → IsotropicRounded side trial A q B r a → IsotropicRounded side trial A q B r′ a′ → (r ≡ r′) × (a ≡ a′)
+isotropic-rounded-unique {side} {trial} {A} {q} {B} {r} {r′} {a} {a′} s s′ = (⊎-elim still grown (≤F-or-<F (accumulated side B) (accumulated side (whole (pos A)))), same)
+  where
+    same : a ≡ a′
+    same = abscissa-unique (s .abscissa) (s′ .abscissa)
+
+    still : accumulated side B ≤F accumulated side (whole (pos A)) → r ≡ r′
+    still l = whole-eq r r′ (≈F-trans (≈F-sym (s .still l)) (s′ .still l))
+
+    grown : accumulated side (whole (pos A)) <F accumulated side B → r ≡ r′
+    grown l = let (R, f, e) = s .grown l in let (R′, f′, e′) = s′ .grown l in
+        e ∙ ap (λ (n : ℕ). signed trial (pos n)) (limit-unique f (rw (← same) at f′)) ∙ sym e′

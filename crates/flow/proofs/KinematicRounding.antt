@@ -1,7 +1,7 @@
 -- Law 2: what is stored is the stated rounding of every candidate that meets the conditions.
 use mathlib.Core.Path.{_≡_, refl}
 use mathlib.Core.Bool.{true, false≢true}
-use mathlib.Core.Logic.{_↔_, Iff·trans}
+use mathlib.Core.Logic.{_↔_, Iff·trans, ⊎-elim}
 use Prim.Native.Nat.{ℕ, _-_, _*_, _/_, _≤_, _<_}
 use native.Mathlib.Decide.{decLe}
 use borrow.Author.Tests.{le-leb, lt-leb}
@@ -11,9 +11,9 @@ use lib.IntN.{ℤ, pos, natAbs, _-ℤ_}
 use lib.Signed.{ltZ-yes}
 use Rattle.fractions.specs.Fraction.{Frac, _≤F_, _<F_, _≈F_, whole, _+F_, _-F_, absF, signedF, timesF}
 use Rattle.fractions.proofs.Common.{is-same, is-whole-one, is-sub, is-le, is-lt, is-eq}
-use Rattle.fractions.proofs.Comparison.{≤F-trans, ≤F-of-≈F, ≤F-of-not-<F, ≈F-sym, ≈F-trans, ≈F-refl, <F-not-≤F, whole-lt}
+use Rattle.fractions.proofs.Comparison.{≤F-trans, ≤F-of-≈F, ≤F-of-not-<F, ≈F-sym, ≈F-trans, ≈F-refl, <F-not-≤F, whole-lt, ≤F-or-<F, whole-eq}
 use Rattle.fractions.proofs.Arithmetic.{sub-same, abs-same, add-then-sub, times-same, times-not-negative, whole-abs, whole-sub}
-use Rattle.fractions.proofs.Rounded.{floor-same, floor-times}
+use Rattle.fractions.proofs.Rounded.{floor-same, floor-times, floor-unique}
 use Rattle.fractions.proofs.Signs.{abs-signed}
 use Rattle.flow.specs.Conditions.{Kinematic}
 use Rattle.flow.specs.Rounded.{KinematicRounded}
@@ -80,3 +80,16 @@ module _ {E tangent : ℕ} {below : tangent < E} (E-pos : 0 < E) {yield : ℕ} (
             },
             (λ t. grows .1 past, λ g. refl),
           )
+
+-- The rounding of a candidate is one stress and one centre.
+pub kinematic-rounded-unique : {yield : ℕ} {trial X : ℤ} {q X′ growth : Frac} {r r′ c c′ : ℤ}
+    → KinematicRounded yield trial X q X′ growth r c → KinematicRounded yield trial X q X′ growth r′ c′ → (r ≡ r′) × (c ≡ c′)
+kinematic-rounded-unique {yield} {trial} {X} {q} {X′} {growth} {r} {r′} {c} {c′} s s′ = ⊎-elim still grown (≤F-or-<F growth (whole (pos 0)))
+  where
+    still : growth ≤F whole (pos 0) → (r ≡ r′) × (c ≡ c′)
+    still l = let (x, t) = s .still l in let (x′, t′) = s′ .still l in (whole-eq r r′ (≈F-trans (≈F-sym t) t′), whole-eq c c′ (≈F-trans (≈F-sym x) x′))
+
+    grown : whole (pos 0) <F growth → (r ≡ r′) × (c ≡ c′)
+    grown l = let (m, f, e, t) = s .grown l in let (m′, f′, e′, t′) = s′ .grown l in
+        let same : pos m ≡ pos m′ = floor-unique (pos m) (pos m′) (≈F-refl (absF (X′ -F whole X))) f f′ in
+        (cc, cc)

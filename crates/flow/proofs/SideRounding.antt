@@ -3,7 +3,7 @@
 use mathlib.Core.Path.{_≡_, refl}
 use mathlib.Core.List.{[], _∷_}
 use mathlib.Core.Bool.{true, false≢true}
-use mathlib.Core.Logic.{_↔_, Iff·trans}
+use mathlib.Core.Logic.{_↔_, ⊎-elim, Iff·trans}
 use Prim.Native.Nat.{ℕ, _+_, _-_, _≤_, _<_}
 use native.Mathlib.Decide.{decLe}
 use borrow.Author.Tests.{le-leb, lt-leb}
@@ -11,8 +11,8 @@ use native.Mathlib.Omega.{arith}
 use lib.IntN.{pos}
 use Rattle.fractions.specs.Fraction.{Frac, _≤F_, _<F_, _≈F_, whole, _+F_, _-F_}
 use Rattle.fractions.proofs.Common.{is-add, is-sub, is-le, is-eq, at-common}
-use Rattle.fractions.proofs.Comparison.{≤F-antisym, ≈F-sym, <F-not-≤F}
-use Rattle.fractions.proofs.Rounded.{floor-passed, excess-ceiling, ceiling-same}
+use Rattle.fractions.proofs.Comparison.{≤F-antisym, ≈F-sym, <F-not-≤F, ≤F-or-<F, ≈F-trans, ≈F-refl, whole-eq}
+use Rattle.fractions.proofs.Rounded.{floor-passed, excess-ceiling, ceiling-same, floor-unique, ceiling-unique}
 use Rattle.flow.specs.Side.{Side, accumulated, Hardens}
 use Rattle.flow.specs.Conditions.{OnSide}
 use Rattle.flow.specs.Solution.{flowed}
@@ -79,3 +79,16 @@ module _ {side : Side} (curve : Hardens side) {limit : ℕ → ℕ} (floor : (a 
             still = λ g. absurd (<F-not-≤F grows g);
             yields = (λ t. grows, λ g. refl);
           }
+
+-- The roundings leave one number each.
+pos-injective : (a b : ℕ) → pos a ≡ pos b → a ≡ b
+pos-injective a b e = cc
+
+pub abscissa-unique : {side : Side} {A : ℕ} {B : Frac} {a a′ : ℕ} → AbscissaRounded side A B a → AbscissaRounded side A B a′ → a ≡ a′
+abscissa-unique {side} {A} {B} {a} {a′} r r′ =
+    pos-injective a a′
+    (⊎-elim (λ l. whole-eq (pos a) (pos a′) (≈F-trans (≈F-sym (r .still l)) (r′ .still l)))
+    (λ l. ceiling-unique (pos a) (pos a′) (≈F-refl B) (r .grown l) (r′ .grown l)) (≤F-or-<F (accumulated side B) (accumulated side (whole (pos A)))))
+
+pub limit-unique : {side : Side} {a R R′ : ℕ} → LimitRounded side a R → LimitRounded side a R′ → R ≡ R′
+limit-unique {side} {a} {R} {R′} r r′ = pos-injective R R′ (floor-unique (pos R) (pos R′) (≈F-refl (side .limit (whole (pos a)))) (r .floor) (r′ .floor))
