@@ -5,13 +5,13 @@ use mathlib.Core.Path.{_≡_, sym, _∙_, ap}
 use mathlib.Core.List.{List, [], _∷_}
 use mathlib.Core.Logic.{_↔_}
 use Prim.Native.Nat.{ℕ, _+_, _*_, _≤_, _<_, min, max}
-use native.Mathlib.Nat.{mul-comm, mul-pos, mul-le-mul-left, mul-lt-mul-of-pos-left, le-of-mul-le-mul-left, lt-of-mul-lt-mul-left, eq-of-mul-eq-mul-left}
+use native.Mathlib.Nat.{mul-add, mul-mul-mul-comm, mul-comm, mul-pos, mul-le-mul-left, mul-lt-mul-of-pos-left, le-of-mul-le-mul-left, lt-of-mul-lt-mul-left, eq-of-mul-eq-mul-left}
 use native.Mathlib.Decide.{decLe}
 use native.Mathlib.Omega.{arith}
 use lib.Dec.{lit<}
 use lib.IntN.{ℤ, pos, negsuc, natAbs, _*ℤ_}
-use Rattle.fractions.specs.Fraction.{Frac, _≤F_, _<F_, _≈F_, whole, _+F_, negF, _-F_, absF, signed, signedF, timesF}
-use Rattle.fractions.proofs.Parts.{up, dn, equal-parts, add-parts, neg-parts, times-parts, le-parts, le-of-parts, lt-parts, lt-of-parts}
+use Rattle.fractions.specs.Fraction.{Frac, _≤F_, _<F_, _≈F_, whole, _+F_, negF, _-F_, absF, signed, signedF, timesF, _*F_}
+use Rattle.fractions.proofs.Parts.{up, dn, equal-parts, add-parts, neg-parts, times-parts, mul-parts, le-parts, le-of-parts, lt-parts, lt-of-parts}
 
 -- x is (p - n) / d.
 pub record Is (x : Frac) (p n d : ℕ) : Type 0 where
@@ -79,6 +79,32 @@ is-times {x} {p} {n} {d} t e h i =
     record {
       some = mul-pos h (i .some);
       same = rw (times-parts t (x .num) .0, times-parts t (x .num) .1) (omega (arith, ap (λ (k : ℕ). e * (t * k)) (i .same)));
+    }
+
+-- (a - b)(c - d) = (a′ - b′)(c′ - d′), where a - b = a′ - b′ and c - d = c′ - d′.
+product-of-differences : (a b c d a′ b′ c′ d′ : ℕ) → a + b′ ≡ b + a′ → c + d′ ≡ d + c′
+    → a * c + b * d + (a′ * d′ + b′ * c′) ≡ a * d + b * c + (a′ * c′ + b′ * d′)
+product-of-differences a b c d a′ b′ c′ d′ e f =
+    omega (arith, ap (λ (k : ℕ). k * c) e, ap (λ (k : ℕ). k * d) e, ap (λ (k : ℕ). a′ * k) f, ap (λ (k : ℕ). b′ * k) f)
+
+product-core : (dx dy d e p n q m a b a′ b′ u v : ℕ)
+    → dx * p * (dy * q) + dx * n * (dy * m) + (d * a * (e * b′) + d * b * (e * a′)) ≡ dx * p * (dy * m) + dx * n * (dy * q) + (d * a * (e * a′) + d * b * (e * b′))
+    → u + (a * b′ + b * a′) ≡ a * a′ + b * b′ + v → dx * dy * (p * q + n * m) + d * e * v ≡ dx * dy * (p * m + n * q) + d * e * u
+product-core dx dy d e p n q m a b a′ b′ u v f g =
+    let h : d * e * u + (d * a * (e * b′) + d * b * (e * a′)) ≡ d * a * (e * a′) + d * b * (e * b′) + d * e * v =
+    simp (mul-add, mul-mul-mul-comm d e) at (ap (λ (k : ℕ). d * e * k) g) in
+    rw (mul-add (dx * dy) (p * q) (n * m), mul-add (dx * dy) (p * m) (n * q), mul-mul-mul-comm dx dy p q, mul-mul-mul-comm dx dy n m, mul-mul-mul-comm dx dy p m, mul-mul-mul-comm dx dy n q)
+    (omega arith)
+
+pub is-mul : {x y : Frac} {p n d q m e : ℕ} → Is x p n d → Is y q m e → Is (x *F y) (p * q + n * m) (p * m + n * q) (d * e)
+unfolding _*F_
+is-mul {x} {y} {p} {n} {d} {q} {m} {e} i j =
+    record {
+      some = mul-pos (i .some) (j .some);
+      same =
+          product-core (x .den) (y .den) d e p n q m (up (x .num)) (dn (x .num)) (up (y .num)) (dn (y .num)) _ _
+          (product-of-differences (x .den * p) (x .den * n) (y .den * q) (y .den * m) (d * up (x .num)) (d * dn (x .num)) (e * up (y .num)) (e * dn (y .num)) (i .same) (j .same))
+          (mul-parts (x .num) (y .num));
     }
 
 -- ---- Signs

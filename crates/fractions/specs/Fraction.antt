@@ -16,6 +16,7 @@ pub record Frac : Type 0 where
 
 infix 50 _≤F_ _<F_ _≈F_
 infixl 60 _+F_ _-F_
+infixl 70 _*F_
 -- "Compared by cross products": m / d ≤ n / e where e m ≤ d n. They are records, so that a fact shows which two fractions it is about.
 pub record _≤F_ (x y : Frac) : Type 0 where
   pub cross : (pos (y .den) *ℤ x .num) ≤ℤ (pos (x .den) *ℤ y .num)
@@ -69,6 +70,10 @@ signedF s x = record { num = signed (s .num) (x .num); den = x .den; den-pos = x
 -- A fraction times the ratio t / e, as in "times tangent / E".
 unfoldable pub timesF : Frac → (t e : ℕ) → 0 < e → Frac
 timesF x t e h = record { num = pos t *ℤ x .num; den = e * x .den; den-pos = mul-pos h (x .den-pos) }
+
+-- The product (m / d) (n / e) = (m n) / (d e).
+unfoldable pub _*F_ : Frac → Frac → Frac
+x *F y = record { num = x .num *ℤ y .num; den = x .den * y .den; den-pos = mul-pos (x .den-pos) (y .den-pos) }
 
 -- Two fractions lie within k of one another: |x - y| ≤ k ("within k grains").
 pub record Within (k : ℕ) (x y : Frac) : Type 0 where
