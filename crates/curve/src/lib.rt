@@ -2,6 +2,10 @@
 use units::Length;
 use units::Magnitude;
 use units::Modulus;
+ghost use mathlib.Core.Path.{_≡_};
+ghost use Prim.Native.Nat.{_+_, _*_, _/_, _^_, _≤_, _<_};
+ghost use Rattle.units.specs.Kinds.{magnitude};
+ghost use Rattle.curve.specs.Sides.{Readable, readingOf};
 
 // A straight part of the curve. The last segment of a side has no end; its length is 0.
 pub struct Segment {
@@ -20,4 +24,50 @@ pub struct Side {
 pub struct Reading {
     pub limit: Magnitude,
     pub tangent: Modulus,
+}
+
+impl Segment {
+    // The reading at `past` beyond the segment's start, where the limit is `start`.
+    fn reading(self, modulus: Modulus, start: Magnitude, past: Magnitude) -> Reading
+        requires { ⌜ (0 < modulus .0) × (self .tangent .0 ≤ modulus .0) × (modulus .0 ≤ 2 ^ 32) ⌝ }
+        requires room { ⌜ start .0 + past .0 < 2 ^ 64 ⌝ }
+        ensures { λ r. ⌜ r ≡ record { limit = magnitude (start .0 + past .0 * self .tangent .0 / modulus .0); tangent = self .tangent } ⌝ }
+    {
+        let tangent = self.tangent;
+        let limit = start.plus(past.share(tangent, modulus));
+        Reading { limit, tangent }
+    }
+}
+
+impl Side {
+    // One walk: each segment is taken once, and the rise so far is carried along.
+    pub fn at(self, modulus: Modulus, abscissa: Magnitude) -> Reading
+        requires { ⌜ Readable self modulus ⌝ }
+        ensures { λ r. ⌜ r ≡ readingOf self modulus abscissa ⌝ }
+        ensures most { λ r. ⌜ r .limit .0 ≤ abscissa .0 ⌝ }
+    {
+        let yield_stress = self.yield_stress;
+        if abscissa.below(yield_stress) {
+            return Reading {
+                limit: abscissa,
+                tangent: modulus,
+            };
+        }
+        let last = self.count - 1;
+        let mut rise = Magnitude(0);
+        let mut past = abscissa.minus(yield_stress);
+        let mut i = 0;
+        while i < last {
+            let segment = self.segments[i];
+            let span = segment.length.times(modulus);
+            if past.below(span) {
+                return segment.reading(modulus, yield_stress.plus(rise), past);
+            }
+            past = past.minus(span);
+            rise = rise.plus(segment.length.times(segment.tangent));
+            i += 1;
+        }
+        let segment = self.segments[last];
+        segment.reading(modulus, yield_stress.plus(rise), past)
+    }
 }

@@ -168,6 +168,7 @@ impl Magnitude {
     pub fn share(self, tangent: Modulus, modulus: Modulus) -> Magnitude
         requires { ⌜ (0 < modulus .0) × (tangent .0 ≤ modulus .0) × (modulus .0 ≤ 2 ^ 32) ⌝ }
         ensures { λ r. ⌜ r ≡ magnitude (self .0 * tangent .0 / modulus .0) ⌝ }
+        ensures most { λ r. ⌜ r .0 ≤ self .0 ⌝ }
     {
         let d = self.0;
         let t = tangent.0;

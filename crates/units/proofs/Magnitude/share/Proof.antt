@@ -25,7 +25,10 @@ add-share c =
     fits-le (parts-at-most (c .args .self .0) (c .args .tangent .0) (c .args .modulus .0) (c .pre .0) (c .pre .1)) (word c)
 
 returns : tie.Need-returns
-returns c = ap magnitude (in-parts (c .args .self .0) (c .args .tangent .0) (c .args .modulus .0) (c .pre .0))
+returns c = (
+  ap magnitude (in-parts (c .args .self .0) (c .args .tangent .0) (c .args .modulus .0) (c .pre .0)),
+  parts-at-most (c .args .self .0) (c .args .tangent .0) (c .args .modulus .0) (c .pre .0) (c .pre .1),
+)
 
 pub share-spec : {M : Type 1} → statement M
 share-spec =

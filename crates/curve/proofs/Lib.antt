@@ -1,0 +1,3 @@
+pub mod Rise
+pub mod Tangents
+pub mod Walk

@@ -1,0 +1,3 @@
+pub mod Curve
+pub mod Tangent
+pub mod Sides
