@@ -1,3 +1,7 @@
 pub mod Rise
 pub mod Tangents
+pub mod SegmentsFrom
 pub mod Walk
+pub mod Height
+pub mod Limit
+pub mod Rules

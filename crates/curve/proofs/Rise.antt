@@ -1,14 +1,9 @@
--- How the rise over the segments goes on from one segment to the next, and at most how far it goes. Assumes nothing.
-use Prim.Native.Nat.{ℕ, _+_, _-_, _*_, _≤_, _<_, min}
-use mathlib.Core.Path.{_≡_, refl, ap}
-use native.Mathlib.Nat.{mul-le-mul-right, min-eq-left, min-eq-right}
+-- How the rise over the segments goes on from one segment to the next. Assumes nothing.
+use Prim.Native.Nat.{ℕ, _+_, _-_, _*_, _≤_, min}
+use mathlib.Core.Path.{_≡_, refl}
+use native.Mathlib.Nat.{min-eq-left}
 use native.Mathlib.Omega.{arith}
-use Rattle.curve.specs.Curve.{Segments, last, segment, rise, height}
-
--- No tangent is above E.
-abbrev pub AtMost : ℕ → Segments → Type 0
-AtMost E (last t) = t ≤ E
-AtMost E (segment length t rest) = (t ≤ E) × AtMost E rest
+use Rattle.curve.specs.Curve.{Segments, last, segment, rise}
 
 module _ (w : ℕ) where
   pub rise-last : (t x : ℕ) → rise w (last t) x ≡ t * x
@@ -36,11 +31,3 @@ module _ (w : ℕ) where
       let start : w * length + x - w * length ≡ x = omega arith in
       let all : min (w * length + x) (w * length) ≡ w * length = omega arith in
       rw (start, all)
-
-  pub rise-at-most : (E : ℕ) (segments : Segments) → AtMost E segments → (x : ℕ) → rise w segments x ≤ E * x
-  unfolding rise
-  rise-at-most E (last t) h x = mul-le-mul-right x h
-  rise-at-most E (segment length t rest) h x =
-      let within : t * min x (w * length) ≤ E * min x (w * length) = mul-le-mul-right (min x (w * length)) (h .0) in
-      let parts : min x (w * length) + (x - w * length) ≡ x = omega arith in
-      omega (arith, within, rise-at-most E rest (h .1) (x - w * length), ap (λ (n : ℕ). E * n) parts)

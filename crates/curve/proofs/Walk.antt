@@ -1,55 +1,23 @@
 -- The walk over the segments of a side: what is true at each segment that it reaches, and what it reads where it stops. Assumes nothing.
-use Prim.Native.Nat.{ℕ, suc, _+_, _-_, _*_, _/_, _^_, _≤_, _<_, min}
-use mathlib.Core.Path.{_≡_, _∙_, ap}
-use mathlib.Core.List.{_∷_}
-use native.Mathlib.Nat.{mul-add-div, mul-div-right, mul-comm, mul-le-mul, mul-le-mul-right, div-le-of-le-mul}
-use native.Mathlib.Numerals.{add-one}
+use Prim.Native.Nat.{ℕ, _+_, _-_, _*_, _/_, _^_, _≤_, _<_, min}
+use mathlib.Core.Path.{_≡_, _∙_}
+use native.Mathlib.Nat.{mul-add-div, mul-div-right, mul-le-mul, mul-le-mul-right, div-le-of-le-mul}
 use native.Mathlib.Omega.{arith}
-use lib.ListN.{length, take, drop, getD, drop-of-length-le}
-use lib.Seq.{drop-cons, getD-take, length-take-le}
+use lib.ListN.{length, take, getD}
 use Rattle.units.specs.Kinds.{magnitude}
 use Rattle.units.specs.declared.Magnitude.{Magnitude}
 use Rattle.units.specs.declared.Modulus.{Modulus}
 use Rattle.curve.specs.declared.Side.{Side}
 use Rattle.curve.specs.declared.Reading.{Reading}
-use Rattle.curve.specs.Curve.{Segments, last, segment, rise, height, limitAt}
+use Rattle.curve.specs.Curve.{rise, height, limitAt}
 use Rattle.curve.specs.Tangent.{pieces, tangentIn, tangentAt}
 use Rattle.curve.specs.Sides.{segmentsOf, curveOf, readingOf, flat, Readable}
 use Rattle.curve.proofs.Rise.{rise-last, rise-zero, rise-within, rise-beyond}
 use Rattle.curve.proofs.Tangents.{tangent-below, tangent-last, tangent-within, tangent-beyond}
+use Rattle.curve.proofs.SegmentsFrom.{lengthAt, tangentOf, from, from-segment, from-last}
 
 abbrev pub yieldOf : Side → ℕ
 yieldOf side = side .«yield_stress» .0
-
-abbrev pub lengthAt : Side → ℕ → ℕ
-lengthAt side i = getD (side .segments) i flat .length .0
-
-abbrev pub tangentOf : Side → ℕ → ℕ
-tangentOf side i = getD (side .segments) i flat .tangent .0
-
--- ---- The segments from the i-th on
-
-unfoldable pub from : Side → ℕ → Segments
-from side i = segmentsOf (drop i (take (side .count) (side .segments)))
-
-module _ (side : Side) (fits : side .count ≤ length (side .segments)) where
-  first-of : (i : ℕ) → i < side .count
-      → drop i (take (side .count) (side .segments)) ≡ getD (side .segments) i flat ∷ drop (suc i) (take (side .count) (side .segments))
-  first-of i h =
-      let taken = length-take-le (side .count) (side .segments) fits in
-      rw (drop-cons (take (side .count) (side .segments)) i flat (omega arith), getD-take (side .count) (side .segments) i flat h)
-
-  from-segment : (i : ℕ) → i + 1 < side .count → from side i ≡ segment (lengthAt side i) (tangentOf side i) (from side (i + 1))
-  unfolding from segmentsOf
-  from-segment i h = rw (add-one i, first-of i (omega arith), first-of (suc i) (omega (arith, h)))
-
-  from-last : (i : ℕ) → i + 1 ≡ side .count → from side i ≡ last (tangentOf side i)
-  unfolding from segmentsOf
-  from-last i h =
-      let taken = length-take-le (side .count) (side .segments) fits in
-      rw (first-of i (omega arith), drop-of-length-le (take (side .count) (side .segments)) {i = suc i} (omega arith))
-
--- ---- At each segment
 
 -- Segment i of `side` is reached, `past` of an abscissa that lies `all` past the yield is left, and `carried` is the rise so far.
 pub record Reached (e : Modulus) (side : Side) (all carried past i : ℕ) : Type 0 where

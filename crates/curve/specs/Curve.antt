@@ -1,6 +1,6 @@
 -- The curve T of one side: "The curve T starts at (yield, yield). Over abscissa E times the segment's length it rises by tangent times
 -- length" (document 01, The conditions of one pair). Definitions only; nothing is assumed.
-use Prim.Native.Nat.{ℕ, _+_, _-_, _*_, _/_, _<_, min}
+use Prim.Native.Nat.{ℕ, _+_, _-_, _*_, _/_, _≤_, _<_, min}
 use native.Mathlib.Nat.{mul-pos}
 use lib.IntN.{ℤ, pos, negsuc}
 use Rattle.fractions.specs.Fraction.{Frac}
@@ -14,6 +14,16 @@ pub data Segments : Type 0 where
 pub record Curve : Type 0 where
   pub yield : ℕ
   pub segments : Segments
+
+-- "Each tangent modulus is .. below E" ..
+abbrev pub Below : ℕ → Segments → Type 0
+Below E (last t) = t < E
+Below E (segment length t rest) = (t < E) × Below E rest
+
+-- .. "and not above that of the segment before it on its side"; `most` is what stands before the first, E.
+abbrev pub Falling : ℕ → Segments → Type 0
+Falling most (last t) = t ≤ most
+Falling most (segment length t rest) = (t ≤ most) × Falling t rest
 
 -- E times the rise over the first x of abscissa from where the segments start. A segment takes w times its length of the abscissa, where w
 -- is E in the unit in which x is counted, and rises by t / E over each unit; what x has beyond it falls to the segments after it.
