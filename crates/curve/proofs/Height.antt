@@ -1,7 +1,7 @@
 -- E times T as a function of the naturals: the same in every unit, concave where the tangents fall, and past the yield flatter than the
 -- diagonal where they are below E. Assumes nothing.
 use Prim.Native.Nat.{ℕ, _+_, _-_, _*_, _≤_, _<_, min}
-use mathlib.Core.Path.{_≡_, sym, _∙_, ap, subst, fun-ext}
+use mathlib.Core.Path.{_≡_, ap, subst, fun-ext}
 use mathlib.Core.Logic.{_⊎_, inl, inr}
 use native.Mathlib.Nat.{mul-sub, mul-assoc, mul-le-mul-right, mul-lt-mul-of-pos-right, le-of-lt, le-dest, eq-zero-or-pos}
 use native.Mathlib.Omega.{arith}

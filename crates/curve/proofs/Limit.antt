@@ -1,8 +1,9 @@
 -- T over fractions: the same at equal abscissas, the whole limit is its floor, it doesn't fall, it rises by at most the abscissa's growth,
 -- and past the yield by less. Assumes nothing.
-use Prim.Native.Nat.{ℕ, suc, _+_, _-_, _*_, _/_, _≤_, _<_, min}
-use mathlib.Core.Path.{_≡_, refl, sym, _∙_, ap}
+use Prim.Native.Nat.{ℕ, _+_, _-_, _*_, _≤_, _<_}
+use mathlib.Core.Path.{_≡_, refl, sym, ap}
 use mathlib.Core.List.{[], _∷_}
+use mathlib.Core.Logic.{⊎-elim}
 use native.Mathlib.Nat.{mul-sub, mul-one, one-mul, mul-pos, mul-left-comm, mul-le-mul-left}
 use native.Mathlib.Omega.{arith}
 use lib.IntN.{ℤ, pos, negsuc}
@@ -10,13 +11,13 @@ use Rattle.fractions.specs.Fraction.{Frac, whole, _≤F_, _<F_, _≈F_, _-F_}
 use Rattle.fractions.specs.Rounding.{Floor}
 use Rattle.fractions.proofs.Parts.{up, dn, le-of-parts}
 use Rattle.fractions.proofs.Common.{Is, is-own, is-same, is-whole, is-whole-one, is-sub, is-scale, is-le, is-lt, is-eq, at-common}
-use Rattle.fractions.proofs.Comparison.{≤F-refl, whole-le}
+use Rattle.fractions.proofs.Comparison.{≤F-refl, ≤F-or-<F, <F-not-≤F, whole-le}
 use Rattle.fractions.proofs.Rounded.{floor-quotient}
 use Rattle.units.specs.declared.Magnitude.{Magnitude}
 use Rattle.units.specs.declared.Modulus.{Modulus}
 use Rattle.curve.specs.declared.Side.{Side}
 use Rattle.curve.specs.Sides.{curveOf, readingOf}
-use Rattle.curve.specs.Curve.{Curve, Below, Falling, height, limitAt, abscissaOf, limitF}
+use Rattle.curve.specs.Curve.{Curve, Below, Falling, height, limitAt, abscissaOf, limitF, plasticF}
 use Rattle.curve.proofs.Height.{height-scale, height-below-yield, height-concave, height-below}
 
 -- The numerator that is read as an abscissa, of a fraction that is (p - n) / d too.
@@ -58,12 +59,15 @@ module _ (E : ℕ) (some : 0 < E) (c : Curve) where
   pub limit-at-yield : limitF E some c (whole (pos (c .yield))) ≈F whole (pos (c .yield))
   limit-at-yield = limit-below-yield (whole-le (pos 0) (pos (c .yield)) .1 (le-of-parts (pos 0) (pos (c .yield)) (omega arith))) (≤F-refl (whole (pos (c .yield))))
 
+  pub is-limit-whole : (a : ℕ) → Is (limitF E some c (whole (pos a))) (height E E (c .yield) (c .segments) a) 0 E
+  is-limit-whole a =
+      let zero : a - 0 ≡ a = omega arith in
+      rw (one-mul E, one-mul (c .yield), zero, mul-one E) at (is-limit (is-whole-one (pos a)))
+
   -- "T there, rounded down": the whole limit is the floor of T.
   pub limit-floor : (a : ℕ) → Floor (limitF E some c (whole (pos a))) (pos (limitAt E c a))
   unfolding limitAt
-  limit-floor a =
-      let zero : a - 0 ≡ a = omega arith in
-      floor-quotient (rw (one-mul E, one-mul (c .yield), zero, mul-one E) at (is-limit (is-whole-one (pos a))))
+  limit-floor a = floor-quotient (is-limit-whole a)
 
   module _ (falling : Falling E (c .segments)) where
     -- Over one denominator, from a to b.
@@ -79,8 +83,8 @@ module _ (E : ℕ) (some : 0 < E) (c : Curve) where
         (λ d ((p, n, i), ((q, m, j), _)). is-le (is-limit i) (is-limit j) .1 (omega (arith, over-grows d (p - n) (q - m) (omega (arith, is-le i j .0 h)))))
 
     -- T rises by at most the abscissa's growth.
-    pub limit-gentle : {x x′ : Frac} → x ≤F x′ → (limitF E some c x′ -F limitF E some c x) ≤F (x′ -F x)
-    limit-gentle {x} {x′} h = at-common (x ∷ x′ ∷ []) (λ d ((p, n, i), ((q, m, j), _)). go d p n q m i j (is-le i j .0 h))
+    pub limit-lipschitz : {x x′ : Frac} → x ≤F x′ → (limitF E some c x′ -F limitF E some c x) ≤F (x′ -F x)
+    limit-lipschitz {x} {x′} h = at-common (x ∷ x′ ∷ []) (λ d ((p, n, i), ((q, m, j), _)). go d p n q m i j (is-le i j .0 h))
       where
         go : (d p n q m : ℕ) → Is x p n d → Is x′ q m d → p + m ≤ q + n → (limitF E some c x′ -F limitF E some c x) ≤F (x′ -F x)
         go d p n q m i j l =
@@ -89,11 +93,11 @@ module _ (E : ℕ) (some : 0 < E) (c : Curve) where
             (omega (arith, over-grows d (p - n) (q - m) (omega arith), mul-le-mul-left E growth))
 
   -- Past the yield T rises by less than the abscissa, so E times accumulated plastic strain, the abscissa less T, grows strictly.
-  pub plastic-strictly-increasing : Below E (c .segments) → {x x′ : Frac} → whole (pos (c .yield)) ≤F x → x <F x′ → (x -F limitF E some c x) <F (x′ -F limitF E some c x′)
+  pub plastic-strictly-increasing : Below E (c .segments) → {x x′ : Frac} → whole (pos (c .yield)) ≤F x → x <F x′ → plasticF E some c x <F plasticF E some c x′
   plastic-strictly-increasing below {x} {x′} past h =
       at-common (x ∷ x′ ∷ []) (λ d ((p, n, i), ((q, m, j), _)). go d p n q m i j (is-le (is-whole (pos (c .yield)) (i .some)) i .0 past) (is-lt i j .0 h))
     where
-      go : (d p n q m : ℕ) → Is x p n d → Is x′ q m d → d * c .yield + n ≤ p + d * 0 → p + m < q + n → (x -F limitF E some c x) <F (x′ -F limitF E some c x′)
+      go : (d p n q m : ℕ) → Is x p n d → Is x′ q m d → d * c .yield + n ≤ p + d * 0 → p + m < q + n → plasticF E some c x <F plasticF E some c x′
       go d p n q m i j yielded l =
           let a = p - n in
           let k = q - m - (p - n) in
@@ -101,6 +105,11 @@ module _ (E : ℕ) (some : 0 < E) (c : Curve) where
           let growth : k + (p + m) ≡ q + n = omega arith in
           is-lt (is-sub (is-scale E some i) (is-limit i)) (is-sub (is-scale E some j) (is-limit j)) .1
           (omega (arith, rw end at (height-below E (d * E) (d * c .yield) (c .segments) below a k (omega arith) (omega arith)), ap (λ (g : ℕ). E * g) growth))
+
+  -- So an abscissa with no more plastic strain is no greater.
+  pub plastic-reflects : Below E (c .segments) → {x x′ : Frac} → whole (pos (c .yield)) ≤F x′ → plasticF E some c x ≤F plasticF E some c x′ → x ≤F x′
+  plastic-reflects below {x} {x′} past h =
+      ⊎-elim (λ le. le) (λ gt. absurd (<F-not-≤F (plastic-strictly-increasing below past gt) h)) (≤F-or-<F x x′)
 
 -- A reading's limit is T at the abscissa, rounded down.
 pub reading-floor : (side : Side) (e : Modulus) (some : 0 < e .0) (a : Magnitude) → Floor (limitF (e .0) some (curveOf side) (whole (pos (a .0)))) (pos (readingOf side e a .limit .0))

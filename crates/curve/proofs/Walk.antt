@@ -30,6 +30,12 @@ pub record Reached (e : Modulus) (side : Side) (all carried past i : ℕ) : Type
   pub rises : (x : ℕ) → rise (e .0) (from side 0) (all - past + x) ≡ e .0 * carried + rise (e .0) (from side i) x
   pub tangents : tangentIn (e .0) (pieces (e .0) (yieldOf side) (from side 0)) (yieldOf side + all) ≡ tangentIn (e .0) (pieces (e .0) (yieldOf side + (all - past)) (from side i)) (yieldOf side + all)
 
+-- What `reading` answers at segment i is what the side says at the abscissa.
+abbrev pub ReadsRight : (e : Modulus) (side : Side) (all carried past i : ℕ) → Type 0
+ReadsRight e side all carried past i =
+    (reading : Reading) → reading ≡ record { limit = magnitude (yieldOf side + carried + past * tangentOf side i / e .0); tangent = getD (side .segments) i flat .tangent }
+    → (a : Magnitude) → a .0 ≡ yieldOf side + all → (reading ≡ readingOf side e a) × (reading .limit .0 ≤ a .0)
+
 pub begun : (e : Modulus) (side : Side) (all : ℕ) → Readable side e → length (side .segments) ≡ 7 → yieldOf side + all < 2 ^ 64 → Reached e side all 0 all 0
 begun e side all readable array word =
     let start : yieldOf side + (all - all) ≡ yieldOf side = omega arith in
@@ -37,7 +43,7 @@ begun e side all readable array word =
       readable = readable;
       array = array;
       word = word;
-      index = readable .some;
+      index = readable .count-positive;
       room = omega arith;
       rises = λ x. let same : all - all + x ≡ x = omega arith in rw same (omega arith);
       tangents = rw start;
@@ -45,15 +51,15 @@ begun e side all readable array word =
 
 module _ {e : Modulus} {side : Side} {all carried past i : ℕ} (r : Reached e side all carried past i) where
   fits : side .count ≤ length (side .segments)
-  fits = omega (arith, r .array, r .readable .seven)
+  fits = omega (arith, r .array, r .readable .count-fits)
 
   -- both products of a segment fit 64 bits, by that of E
   pub span-fits : e .0 * lengthAt side i < 2 ^ 64
   span-fits =
-      omega (arith, mul-le-mul {n₁ = e .0} {m₁ = lengthAt side i} {n₂ = 4294967296} {m₂ = 4294967295} (r .readable .word) (omega (arith, r .readable .lengths i (r .index))))
+      omega (arith, mul-le-mul {n₁ = e .0} {m₁ = lengthAt side i} {n₂ = 4294967296} {m₂ = 4294967295} (r .readable .modulus-fits) (omega (arith, r .readable .lengths-fit i (r .index))))
 
   pub rise-at-most-span : tangentOf side i * lengthAt side i ≤ e .0 * lengthAt side i
-  rise-at-most-span = mul-le-mul-right (lengthAt side i) (r .readable .tangents i (r .index))
+  rise-at-most-span = mul-le-mul-right (lengthAt side i) (r .readable .tangents-fit i (r .index))
 
   -- the segment ends before the abscissa, or where it is: the next one is reached
   pub onward : i + 1 < side .count → e .0 * lengthAt side i ≤ past
@@ -85,13 +91,12 @@ module _ {e : Modulus} {side : Side} {all carried past i : ℕ} (r : Reached e s
       let at-yield : min (y + (all - past)) y ≡ y = omega arith in
       let start : y + (all - past) - y ≡ all - past + 0 = omega arith in
       let whole : e .0 * y + rise (e .0) (from side 0) (all - past + 0) ≡ e .0 * (y + carried) = rw (r .rises 0, rise-zero (e .0) (from side i)) (omega arith) in
-      rw (at-yield, start, whole) (mul-div-right (y + carried) (r .readable .stiff))
+      rw (at-yield, start, whole) (mul-div-right (y + carried) (r .readable .modulus-positive))
 
-  -- What `reading` answers at segment i is what the side says, where the segment rises by its tangent up to the abscissa and holds it.
+  -- Segment i is the one to read where it rises by its tangent up to the abscissa and holds it.
   stop : rise (e .0) (from side i) past ≡ tangentOf side i * past
       → tangentIn (e .0) (pieces (e .0) (yieldOf side + (all - past)) (from side i)) (yieldOf side + all) ≡ tangentOf side i
-      → (reading : Reading) → reading ≡ record { limit = magnitude (yieldOf side + carried + past * tangentOf side i / e .0); tangent = getD (side .segments) i flat .tangent }
-      → (a : Magnitude) → a .0 ≡ yieldOf side + all → (reading ≡ readingOf side e a) × (reading .limit .0 ≤ a .0)
+      → ReadsRight e side all carried past i
   unfolding readingOf curveOf limitAt tangentAt height from
   stop risen tangent reading is a lies =
       let y = yieldOf side in
@@ -99,22 +104,18 @@ module _ {e : Modulus} {side : Side} {all carried past i : ℕ} (r : Reached e s
       let at-yield : min (y + all) y ≡ y = omega arith in
       let beyond : y + all - y ≡ all - past + past = omega (arith, r .room) in
       let whole : e .0 * y + rise (e .0) (from side 0) (all - past + past) ≡ e .0 * (y + carried) + past * t = rw (r .rises past, risen) (omega arith) in
-      let share : past * t / e .0 ≤ past = div-le-of-le-mul (e .0) (omega (arith, mul-le-mul-right past (r .readable .tangents i (r .index)))) in (
-        rw (is, lies, at-yield, beyond, whole, mul-add-div (r .readable .stiff) (y + carried) (past * t), r .tangents, tangent),
+      let share : past * t / e .0 ≤ past = div-le-of-le-mul (e .0) (omega (arith, mul-le-mul-right past (r .readable .tangents-fit i (r .index)))) in (
+        rw (is, lies, at-yield, beyond, whole, mul-add-div (r .readable .modulus-positive) (y + carried) (past * t), r .tangents, tangent),
         rw (is, lies) (omega (arith, r .room)),
       )
 
-  pub stop-within : i + 1 < side .count → past < e .0 * lengthAt side i
-      → (reading : Reading) → reading ≡ record { limit = magnitude (yieldOf side + carried + past * tangentOf side i / e .0); tangent = getD (side .segments) i flat .tangent }
-      → (a : Magnitude) → a .0 ≡ yieldOf side + all → (reading ≡ readingOf side e a) × (reading .limit .0 ≤ a .0)
+  pub stop-within : i + 1 < side .count → past < e .0 * lengthAt side i → ReadsRight e side all carried past i
   stop-within h before =
       stop
       (rw (from-segment side fits i h) (rise-within (e .0) (lengthAt side i) (tangentOf side i) (from side (i + 1)) past (omega arith)))
       (rw (from-segment side fits i h) (tangent-within (e .0) (yieldOf side + (all - past)) (yieldOf side + all) (lengthAt side i) (tangentOf side i) (from side (i + 1)) (omega arith) (omega (arith, r .room))))
 
-  pub stop-last : i + 1 ≡ side .count
-      → (reading : Reading) → reading ≡ record { limit = magnitude (yieldOf side + carried + past * tangentOf side i / e .0); tangent = getD (side .segments) i flat .tangent }
-      → (a : Magnitude) → a .0 ≡ yieldOf side + all → (reading ≡ readingOf side e a) × (reading .limit .0 ≤ a .0)
+  pub stop-last : i + 1 ≡ side .count → ReadsRight e side all carried past i
   stop-last h =
       stop
       (rw (from-last side fits i h) (rise-last (e .0) (tangentOf side i) past))

@@ -3,7 +3,7 @@
 use Prim.Native.Nat.{ℕ, _+_, _-_, _*_, _/_, _≤_, _<_, min}
 use native.Mathlib.Nat.{mul-pos}
 use lib.IntN.{ℤ, pos, negsuc}
-use Rattle.fractions.specs.Fraction.{Frac}
+use Rattle.fractions.specs.Fraction.{Frac, _-F_}
 
 -- The segments of a side in their order, each a length in nano and a tangent modulus; "the last segment of a side .. has no end".
 pub data Segments : Type 0 where
@@ -45,7 +45,7 @@ abbrev pub abscissaOf : ℤ → ℕ
 abscissaOf (pos n) = n
 abscissaOf (negsuc n) = 0
 
--- T at the abscissa a / d, not rounded. Counted in units of 1 / d, the yield is d y and a nano takes d E.
+-- T at a fraction, not rounded. Counted in units of 1 / d, d the denominator, the yield is d y, and a segment takes d E for each nano.
 unfoldable pub limitF : (E : ℕ) → 0 < E → Curve → Frac → Frac
 limitF E some c x =
     record {
@@ -53,3 +53,7 @@ limitF E some c x =
       den = E * x .den;
       den-pos = mul-pos some (x .den-pos);
     }
+
+-- "The abscissa is A = R + E p (R the yield limit, p accumulated plastic strain), so R = T(A)": E times p is A - T(A).
+abbrev pub plasticF : (E : ℕ) → 0 < E → Curve → Frac → Frac
+plasticF E some c x = x -F limitF E some c x

@@ -32,9 +32,9 @@ flat = record { length = length 0; tangent = modulus 0 }
 
 -- What reading a side in 64 bits asks of it: one to seven segments, moduli and lengths of 32 bits, and no tangent above E.
 pub record Readable (side : Side) (e : Modulus) : Type 0 where
-  pub some : 0 < side .count
-  pub seven : side .count ≤ 7
-  pub stiff : 0 < e .0
-  pub word : e .0 ≤ 2 ^ 32
-  pub tangents : (i : ℕ) → i < side .count → getD (side .segments) i flat .tangent .0 ≤ e .0
-  pub lengths : (i : ℕ) → i < side .count → getD (side .segments) i flat .length .0 < 2 ^ 32
+  pub count-positive : 0 < side .count
+  pub count-fits : side .count ≤ 7
+  pub modulus-positive : 0 < e .0
+  pub modulus-fits : e .0 ≤ 2 ^ 32
+  pub tangents-fit : (i : ℕ) → i < side .count → getD (side .segments) i flat .tangent .0 ≤ e .0
+  pub lengths-fit : (i : ℕ) → i < side .count → getD (side .segments) i flat .length .0 < 2 ^ 32

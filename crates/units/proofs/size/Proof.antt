@@ -1,9 +1,8 @@
 use borrow.Author.Needs.{needs}
 use native.Mathlib.Omega.{arith}
 use mathlib.Core.Path.{_≡_}
-use mathlib.Core.Bool.{true, false}
 use lib.IntN.{pos, negsuc, _-ℤ_}
-use lib.Signed.{ltZ, mag}
+use lib.Signed.{mag}
 use mir.Facts.{toZ-ofZ, fits-natAbs}
 use Rattle.units.proofs.Magnitudes.{flipped, magnitude-below-zero, not-below-zero}
 use Rattle.units.proofs.size.Statement.{statement}

@@ -1,5 +1,5 @@
 -- `Side::at` meets its contract. The loop keeps `Reached`: what is carried is the rise up to the segment reached. Assumes nothing.
-use Prim.Native.Nat.{_+_, _-_, _*_, _^_, _≤_, _<_}
+use Prim.Native.Nat.{_+_, _-_, _≤_, _<_}
 use mathlib.Core.Path.{_≡_, sym, _∙_}
 use native.Mathlib.Omega.{arith}
 use lib.ListN.{length, length-map}
@@ -19,7 +19,7 @@ returns : tie.Need-returns Inv-loop μ-loop
 returns c =
     let s = c .before .before .before in
     let below = ltb-true (s .args .abscissa .0) (yieldOf (s .args .t1)) (sym (c .before .below .ensures) ∙ c .if1 .taken) in
-    (below-yield (s .args .modulus) (s .args .t1) (s .args .abscissa) (s .pre .stiff) below, search needs)
+    (below-yield (s .args .modulus) (s .args .t1) (s .args .abscissa) (s .pre .modulus-positive) below, search needs)
 
 past-yield : (c : tie.Else1 Inv-loop μ-loop) → let s = c .before .before .before in yieldOf (s .args .t1) ≤ s .args .abscissa .0
 past-yield c =
@@ -59,7 +59,7 @@ plus-requires c κs = let inv = c .before .before .before .before .before .loop 
 reading-requires : tie.Need-reading-requires Inv-loop μ-loop
 reading-requires c κs =
     let inv = c .before .before .before .before .before .before .loop .inv in
-    ((inv .readable .stiff, inv .readable .tangents _ (inv .index), inv .readable .word), rw (c .plus .ensures) (omega (arith, inv .word, inv .room)))
+    ((inv .readable .modulus-positive, inv .readable .tangents-fit _ (inv .index), inv .readable .modulus-fits), rw (c .plus .ensures) (omega (arith, inv .word, inv .room)))
 
 returns-2 : tie.Need-returns-2 Inv-loop μ-loop
 returns-2 c =
@@ -96,7 +96,7 @@ plus-requires-3 c κs = let inv = c .before .before .loop .inv in omega (arith, 
 reading-requires-2 : tie.Need-reading-requires-2 Inv-loop μ-loop
 reading-requires-2 c κs =
     let inv = c .before .before .before .loop .inv in
-    ((inv .readable .stiff, inv .readable .tangents _ (omega (arith, inv .readable .some)), inv .readable .word), rw (c .plus3 .ensures) (omega (arith, inv .word, inv .room)))
+    ((inv .readable .modulus-positive, inv .readable .tangents-fit _ (omega (arith, inv .readable .count-positive)), inv .readable .modulus-fits), rw (c .plus3 .ensures) (omega (arith, inv .word, inv .room)))
 
 at-last : (c : tie.After-loop Inv-loop μ-loop) → c .before .before .before .before .before .before .args .t1 .count - 1 ≡ c .before .loop .i
 at-last c = omega (arith, c .before .loop .inv .index)
