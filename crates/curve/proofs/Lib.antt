@@ -4,4 +4,5 @@ pub mod SegmentsFrom
 pub mod Walk
 pub mod Height
 pub mod Limit
+pub mod Secants
 pub mod Rules
