@@ -2,7 +2,7 @@
 use Prim.Native.Nat.{ℕ, _≤_, _<_, _^_}
 use mathlib.Core.List.{List, [], _∷_}
 use lib.ListN.{take, getD}
-use Rattle.units.specs.Kinds.{length, magnitude, modulus}
+use Rattle.units.specs.Kinds.{lengthOf, magnitude, modulus}
 use Rattle.units.specs.declared.Magnitude.{Magnitude}
 use Rattle.units.specs.declared.Modulus.{Modulus}
 use Rattle.curve.specs.declared.Segment.{Segment}
@@ -28,7 +28,7 @@ readingOf side e a =
 
 -- The segment in an array where nothing was written.
 abbrev pub flat : Segment
-flat = record { length = length 0; tangent = modulus 0 }
+flat = record { length = lengthOf 0; tangent = modulus 0 }
 
 -- What reading a side in 64 bits asks of it: one to seven segments, moduli and lengths of 32 bits, and no tangent above E.
 pub record Readable (side : Side) (e : Modulus) : Type 0 where

@@ -8,7 +8,7 @@ use lib.IntN.{ℤ}
 use lib.Dec.{eqb, leb, ltb}
 use Rattle.refusals.specs.Table.{Refusal, refusal, Answer, passes, refused, pick}
 use Rattle.ranges.specs.Ranges.{temperatureRight, mostModulus, mostExpansion, mostYield, mostLength, grains}
-use Rattle.units.specs.Kinds.{tenths, length as lengthOf, magnitude, modulus, expansion}
+use Rattle.units.specs.Kinds.{tenths, lengthOf, magnitude, modulus, expansion}
 use Rattle.law.specs.declared.Law.{Law}
 use Rattle.law.specs.declared.Law.the-variants.{IsotropicLine, IsotropicCurve, Kinematic, Asymmetric}
 use Rattle.law.specs.Laws.{lawOf}

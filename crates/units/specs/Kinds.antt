@@ -22,8 +22,8 @@ abbrev pub tenths : ℤ → Tenths
 tenths z = record { 0 = z }
 
 -- The length of a segment, or the magnitude of a strain, in nano.
-abbrev pub length : ℕ → Length
-length n = record { 0 = n }
+abbrev pub lengthOf : ℕ → Length
+lengthOf n = record { 0 = n }
 
 -- Grains that have no sign: the magnitude of a stress, a yield stress, a yield limit, an abscissa.
 abbrev pub magnitude : ℕ → Magnitude

@@ -4,7 +4,7 @@ ghost use mathlib.Core.Path.{_≡_};
 ghost use Prim.Native.Nat.{_+_, _-_, _*_, _/_, _^_, _≤_, _<_};
 ghost use lib.Dec.{leb, ltb};
 ghost use lib.IntN.{pos, natAbs, _+ℤ_, _-ℤ_, _*ℤ_};
-ghost use Rattle.units.specs.Kinds.{nano, grain, tenths, length, magnitude};
+ghost use Rattle.units.specs.Kinds.{nano, grain, tenths, lengthOf, magnitude};
 ghost use Rattle.units.specs.Signs.{isNeg, withSign};
 
 // Strain, in 10⁻⁹.
@@ -59,7 +59,7 @@ impl Nano {
     }
 
     pub fn magnitude(self) -> Length
-        ensures { λ r. ⌜ r ≡ length (natAbs (self .0)) ⌝ }
+        ensures { λ r. ⌜ r ≡ lengthOf (natAbs (self .0)) ⌝ }
     {
         Length(size(self.0))
     }
