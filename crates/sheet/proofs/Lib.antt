@@ -1,2 +1,3 @@
 pub mod SheetLaws
 pub mod PartLaws
+pub mod Passed

@@ -15,9 +15,10 @@ use Rattle.refusals.specs.Table.{pick}
 use Rattle.ranges.specs.Ranges.{mostYield, mostLength}
 use Rattle.law.specs.declared.Law.{Law}
 use Rattle.law.specs.declared.Law.the-variants.{IsotropicLine, IsotropicCurve, Kinematic, Asymmetric}
+use Rattle.curve.specs.Sides.{flat}
 use Rattle.bits.specs.Field.{within}
 use Rattle.bits.proofs.RangeLaws.{within-itself}
-use Rattle.sheet.specs.Sheets.{compressionOf, compressionYieldRight, lengthRight, lengthIn, allBelow, modulusIn, tangentIn, tangentRight, segmentIn, segmentsIn, noSegment, sevenPlaces, lengthsRight}
+use Rattle.sheet.specs.Sheets.{compressionOf, compressionYieldRight, lengthRight, lengthIn, allBelow, modulusIn, tangentIn, tangentRight, segmentIn, segmentsIn, sevenPlaces, lengthsRight}
 use Rattle.sheet.specs.declared.SegmentsRead.{SegmentsRead}
 use Rattle.sheet.specs.Parts.{leastLength, segmentsRead}
 
@@ -79,7 +80,7 @@ places-more s first i h =
     let g = segmentIn s (first + i) in
     let free : 7 - length l ≡ suc (6 - i) = rw (length-segmentsIn s first i) (omega arith) in
     let left : 7 - length (l ++ (g ∷ [])) ≡ 6 - i = rw (length-append l (g ∷ []), length-segmentsIn s first i) (omega arith) in
-    rw (add-one i, free, left, set-at l noSegment (replicate (6 - i) noSegment) g i (length-segmentsIn s first i)) (sym (append-snoc l g (replicate (6 - i) noSegment)))
+    rw (add-one i, free, left, set-at l flat (replicate (6 - i) flat) g i (length-segmentsIn s first i)) (sym (append-snoc l g (replicate (6 - i) flat)))
 
 -- A tangent below Young's modulus keeps its rule exactly where it isn't above the one before, the modulus standing before the first.
 pub tangent-rule : (s : List ℕ) (first i : ℕ) → ltb (tangentIn s (first + i)) (modulusIn s) ≡ true

@@ -14,6 +14,7 @@ use Rattle.law.specs.declared.Law.the-variants.{IsotropicLine, IsotropicCurve, 
 use Rattle.law.specs.Laws.{lawOf}
 use Rattle.curve.specs.declared.Segment.{Segment}
 use Rattle.curve.specs.declared.Side.{Side}
+use Rattle.curve.specs.Sides.{flat}
 use Rattle.bits.specs.Field.{field, twos, within}
 use Rattle.bits.specs.Layout.{fieldAt}
 use Rattle.sheet.specs.declared.Sheet.{Sheet}
@@ -147,12 +148,9 @@ unfoldable pub segmentsIn : List ℕ → ℕ → ℕ → List Segment
 segmentsIn s first zero = []
 segmentsIn s first (suc n) = segmentsIn s first n ++ (segmentIn s (first + n) ∷ [])
 
--- A side has seven places for segments; those behind the last one hold this.
-abbrev pub noSegment : Segment
-noSegment = record { length = lengthOf 0; tangent = modulus 0 }
-
+-- A side has seven places for segments; those behind the last one are flat and of no length.
 unfoldable pub sevenPlaces : List Segment → List Segment
-sevenPlaces l = l ++ replicate (7 - length l) noSegment
+sevenPlaces l = l ++ replicate (7 - length l) flat
 
 -- A side: its yield, "in 10⁻³ MPa, one being 10⁶ grains", and its segments.
 abbrev pub sideIn : List ℕ → ℕ → ℕ → ℕ → Side
