@@ -3,3 +3,4 @@ pub mod SignLaws
 pub mod PutLaws
 pub mod LayoutLaws
 pub mod RangeLaws
+pub mod WriteLaws

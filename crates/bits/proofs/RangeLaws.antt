@@ -14,7 +14,7 @@ use Rattle.bits.specs.declared.Unsigned.{Unsigned}
 use Rattle.bits.specs.declared.Unsigned.the-variants as Unsigned
 use Rattle.bits.specs.declared.Signed.{Signed}
 use Rattle.bits.specs.declared.Signed.the-variants as Signed
-use Rattle.bits.specs.Field.{field, twos, within, withinℤ, unsignedOf, signedOf}
+use Rattle.bits.specs.Field.{field, twos, within, withinℤ, unsignedIf, signedIf, unsignedOf, signedOf}
 
 some-is-not-none : {A : Type 0} {a : A} → some a ≡ none → ⊥
 some-is-not-none e = let n : _≡_ {A = ℕ} 0 1 = cc in omega arith
@@ -55,20 +55,35 @@ unsigned = record { value = Unsigned.Value; out = Unsigned.OutOfRange; held = el
 signed : Answers ℤ Signed
 signed = record { value = Signed.Value; out = Signed.OutOfRange; held = elim [ Signed.Value z ↦ some z | Signed.OutOfRange ↦ none ]; held-value = λ z. refl; held-out = refl }
 
+module _ (right : Bool) (x : ℕ) where
+  pub unsigned-if-out : unsignedIf right x ≡ Unsigned.OutOfRange → right ≡ false
+  unfolding unsignedIf unsigned
+  unsigned-if-out = told-out unsigned right x
+
+  pub unsigned-if-in : {y : ℕ} → unsignedIf right x ≡ Unsigned.Value y → (right ≡ true) × (y ≡ x)
+  unfolding unsignedIf unsigned
+  unsigned-if-in = told-in unsigned right x
+
+module _ (right : Bool) (z : ℤ) where
+  pub signed-if-out : signedIf right z ≡ Signed.OutOfRange → right ≡ false
+  unfolding signedIf signed
+  signed-if-out = told-out signed right z
+
+  pub signed-if-in : {y : ℤ} → signedIf right z ≡ Signed.Value y → (right ≡ true) × (y ≡ z)
+  unfolding signedIf signed
+  signed-if-in = told-in signed right z
+
+-- For a field with bounds.
 module _ (s : List ℕ) (at w least most : ℕ) where
   pub unsigned-out : unsignedOf s at w least most ≡ Unsigned.OutOfRange → within least most (field s at w) ≡ false
-  unfolding unsignedOf unsigned
-  unsigned-out = told-out unsigned (within least most (field s at w)) (field s at w)
+  unsigned-out = unsigned-if-out (within least most (field s at w)) (field s at w)
 
   pub unsigned-in : {x : ℕ} → unsignedOf s at w least most ≡ Unsigned.Value x → (within least most (field s at w) ≡ true) × (x ≡ field s at w)
-  unfolding unsignedOf unsigned
-  unsigned-in = told-in unsigned (within least most (field s at w)) (field s at w)
+  unsigned-in = unsigned-if-in (within least most (field s at w)) (field s at w)
 
 module _ (s : List ℕ) (at w : ℕ) (least most : ℤ) where
   pub signed-out : signedOf s at w least most ≡ Signed.OutOfRange → withinℤ least most (twos w (field s at w)) ≡ false
-  unfolding signedOf signed
-  signed-out = told-out signed (withinℤ least most (twos w (field s at w))) (twos w (field s at w))
+  signed-out = signed-if-out (withinℤ least most (twos w (field s at w))) (twos w (field s at w))
 
   pub signed-in : {z : ℤ} → signedOf s at w least most ≡ Signed.Value z → (withinℤ least most (twos w (field s at w)) ≡ true) × (z ≡ twos w (field s at w))
-  unfolding signedOf signed
-  signed-in = told-in signed (withinℤ least most (twos w (field s at w))) (twos w (field s at w))
+  signed-in = signed-if-in (withinℤ least most (twos w (field s at w))) (twos w (field s at w))

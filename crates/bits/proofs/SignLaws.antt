@@ -1,7 +1,7 @@
 -- Laws of whole numbers with a sign, as the machine holds them, and of tests between them.
 use Prim.Native.Nat.{ℕ, zero, suc, _+_, _-_, _*_, _/_, _^_, _≤_, _<_}
 use mathlib.Core.Path.{_≡_, refl, sym, ap, ap₂, _∙_}
-use mathlib.Core.Bool.{Bool, true, false, not}
+use mathlib.Core.Bool.{Bool, true, false, not, true≢false}
 use native.Mathlib.Omega.{arith}
 use borrow.Author.Tests.{ltb-true, ltb-false, lt-leb, le-leb, lt-ltb, le-ltb}
 use lib.IntN.{ℤ, pos, negsuc, _-ℤ_}
@@ -11,11 +11,24 @@ use lib.Signed.{ltZ, leZ, mag}
 use mir.Facts.{toZ-ofZ}
 use mir.Syntax.{w64}
 use mir.Val.{SFits, toZ, ofZ}
-use Rattle.bits.specs.Field.{twos}
+use Rattle.refusals.specs.Table.{pick}
+use Rattle.bits.specs.Field.{twos, bitsOf, Held}
 
 pub minus-one-minus : (m : ℕ) → negsuc 0 -ℤ pos m ≡ negsuc m
 minus-one-minus zero = refl
 minus-one-minus (suc m) = ap negsuc (omega arith)
+
+pub minus-one-plus : (m : ℕ) → negsuc 0 -ℤ negsuc m ≡ pos m
+minus-one-plus m = rw (le-ltb (suc m) 1 (omega arith)) (ap pos (omega arith))
+
+-- A number below zero, and any other.
+pub below-zero-is : (z : ℤ) → ltZ z (pos 0) ≡ true → z ≡ negsuc (mag z)
+below-zero-is (pos n) h = absurd (omega (arith, ltb-true n 0 h))
+below-zero-is (negsuc n) h = refl
+
+pub from-zero-is : (z : ℤ) → ltZ z (pos 0) ≡ false → z ≡ pos (mag z)
+from-zero-is (pos n) h = refl
+from-zero-is (negsuc n) h = absurd (true≢false h)
 
 -- A number is at most another exactly where the other isn't below it.
 pub leb-is-not-ltb : (a b : ℕ) → leb b a ≡ not (ltb a b)
@@ -72,3 +85,26 @@ unfolding twos
 twos-high w x h b l =
     let large : 2 ^ (w - 1) ≤ x = omega (arith, half w h) in
     (rw (le-ltb x (2 ^ (w - 1)) large), omega (arith, half w h))
+
+-- The bits of a number that the width holds are below its power of two,
+pub bits-below : (w : ℕ) (z : ℤ) → 1 ≤ w → Held w z → bitsOf w z < 2 ^ w
+unfolding bitsOf
+bits-below w (pos n) h l = omega (arith, half w h)
+bits-below w (negsuc n) h l = omega (arith, half w h)
+
+-- stand for that number,
+pub twos-of-bits : (w : ℕ) (z : ℤ) → 1 ≤ w → Held w z → twos w (bitsOf w z) ≡ z
+unfolding bitsOf twos
+twos-of-bits w (pos n) h l = rw (lt-ltb n (2 ^ (w - 1)) l)
+twos-of-bits w (negsuc n) h l =
+    let large : 2 ^ (w - 1) ≤ 2 ^ w - 1 - n = omega (arith, half w h) in
+    rw (le-ltb (2 ^ w - 1 - n) (2 ^ (w - 1)) large) (ap negsuc (omega (arith, half w h)))
+
+-- and are the only ones that do. What bits of a width stand for, the width holds.
+pub bits-of-twos : (w x : ℕ) → 1 ≤ w → x < 2 ^ w → (bitsOf w (twos w x) ≡ x) × Held w (twos w x)
+unfolding bitsOf twos
+bits-of-twos w x h l = by-test (ltb x (2 ^ (w - 1))) refl
+  where
+    by-test : (t : Bool) → ltb x (2 ^ (w - 1)) ≡ t → (bitsOf w (pick (ltb x (2 ^ (w - 1))) (pos x) (negsuc (2 ^ w - 1 - x))) ≡ x) × Held w (pick (ltb x (2 ^ (w - 1))) (pos x) (negsuc (2 ^ w - 1 - x)))
+    by-test true e = rw e (refl, ltb-true x (2 ^ (w - 1)) e)
+    by-test false e = rw e (omega arith, omega (arith, half w h, ltb-false x (2 ^ (w - 1)) e))

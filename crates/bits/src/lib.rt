@@ -4,7 +4,7 @@ ghost use mathlib.Core.Path.{_≡_};
 ghost use Prim.Native.Nat.{_+_, _-_, _*_, _^_, _≤_, _<_};
 ghost use lib.IntN.{negsuc};
 ghost use lib.ListN.{length, getD};
-ghost use Rattle.bits.specs.Field.{field, twos, unsignedOf, signedOf};
+ghost use Rattle.bits.specs.Field.{field, twos, bitsOf, Held, flag, unsignedOf, signedOf};
 ghost use Rattle.bits.specs.Layout.{bytesOf, put};
 
 // What the reader of an unsigned field answers: the number, or that it lies outside its bounds.
@@ -102,17 +102,33 @@ fn below_zero(m: u64) -> i64
     -1 - a
 }
 
+// The greatest number of some width: all ones of 64 bits, shifted down.
+fn greatest(width: usize) -> u64
+    requires { ⌜ (1 ≤ width) × (width ≤ 64) ⌝ }
+    ensures { λ r. ⌜ r ≡ 2 ^ width - 1 ⌝ }
+{
+    18446744073709551615 >> (64 - width)
+}
+
 // The whole number that bits stand for in two's complement: below half of the width's numbers it is the bits' own.
 fn whole_number(x: u64, width: usize) -> i64
     requires { ⌜ (1 ≤ width) × (width ≤ 64) × (x < 2 ^ width) ⌝ }
     ensures { λ r. ⌜ r ≡ twos width x ⌝ }
 {
-    let greatest: u64 = 18446744073709551615 >> (64 - width);
-    let rest = greatest - x;
+    let rest = greatest(width) - x;
     if x <= rest {
         return x as i64;
     }
     below_zero(rest)
+}
+
+// Any signed field: the whole number that its bits stand for.
+pub fn read_whole(s: &[u8], at: usize, width: usize) -> i64
+    requires { ⌜ (1 ≤ width) × (width ≤ 64) × (at < 2 ^ 59) ⌝ }
+    ensures { λ r. ⌜ r ≡ twos width (field (now (s .entry)) at width) ⌝ }
+{
+    let x = read(s, at, width);
+    whole_number(x, width)
 }
 
 // A signed field within its bounds, or that it lies outside them.
@@ -120,8 +136,7 @@ pub fn read_signed(s: &[u8], at: usize, width: usize, least: i64, most: i64) -> 
     requires { ⌜ (1 ≤ width) × (width ≤ 64) × (at < 2 ^ 59) ⌝ }
     ensures { λ r. ⌜ r ≡ signedOf (now (s .entry)) at width least most ⌝ }
 {
-    let x = read(s, at, width);
-    let z = whole_number(x, width);
+    let z = read_whole(s, at, width);
     if z < least {
         return Signed::OutOfRange;
     }
@@ -129,6 +144,13 @@ pub fn read_signed(s: &[u8], at: usize, width: usize, least: i64, most: i64) -> 
         return Signed::OutOfRange;
     }
     Signed::Value(z)
+}
+
+// A yes or no as one bit.
+pub fn flag(yes: bool) -> u64
+    ensures { λ r. ⌜ r ≡ flag yes ⌝ }
+{
+    if yes { 1 } else { 0 }
 }
 
 // Writes the last `count` bytes of a number at a place of a lent buffer.
@@ -144,4 +166,25 @@ pub fn write(buffer: &mut [u8], at: usize, count: usize, x: u64)
         buffer[place] = (rest % 256) as u8;
         rest = rest / 256;
     }
+}
+
+// The bits of some width that stand for a whole number in two's complement.
+fn bits_of(z: i64, width: usize) -> u64
+    requires { ⌜ (1 ≤ width) × (width ≤ 64) × Held width z ⌝ }
+    ensures { λ r. ⌜ r ≡ bitsOf width z ⌝ }
+{
+    if z < 0 {
+        let below = (-1 - z) as u64;
+        return greatest(width) - below;
+    }
+    z as u64
+}
+
+// Writes a whole number in two's complement, in `count` bytes, at a place of a lent buffer.
+pub fn write_signed(buffer: &mut [u8], at: usize, count: usize, z: i64)
+    requires { ⌜ (1 ≤ count) × (count ≤ 8) × (at + count ≤ length (now buffer)) × Held (8 * count) z ⌝ }
+    ensures { λ _. ⌜ now (buffer .exit) ≡ put (now (buffer .entry)) at (bytesOf count (bitsOf (8 * count) z)) ⌝ }
+{
+    let x = bits_of(z, 8 * count);
+    write(buffer, at, count, x);
 }
