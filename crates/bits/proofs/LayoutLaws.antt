@@ -9,9 +9,11 @@ use lib.ListN.{length, getD, take, List·getD-append}
 use lib.Pow.{pow-add, mod-pow-add, mod-mod-pow}
 use lib.Pow as pow
 use lib.Seq.{getD-at, take-suc, take-all}
-use Rattle.bits.specs.Field.{field}
+use lib.IntN.{ℤ}
+use Rattle.bits.specs.Field.{field, twos, bitsOf, Held}
 use Rattle.bits.specs.Layout.{Part, offset, fieldAt, filled, widths, packed, bytesOf}
 use Rattle.bits.proofs.FieldLaws.{field-below, field-split, field-byte, field-inside}
+use Rattle.bits.proofs.SignLaws.{twos-of-bits}
 use Rattle.bits.proofs.PutLaws.{length-bytesOf}
 
 -- Bytes are numbers below 256.
@@ -121,3 +123,8 @@ read-back n ps f all k h =
     let whole : field (bytesOf n (packed ps)) 0 (widths ps) ≡ packed ps =
     ap (field (bytesOf n (packed ps)) 0) all ∙ number-of-bytes n (packed ps) ∙ ap (λ (m : ℕ). packed ps % 2 ^ m) (sym all) ∙ mod-eq-of-lt (packed-below ps f) in
     rw (zero-add (offset (widthsOf ps) k)) at (packed-read (bytesOf n (packed ps)) 0 ps f whole k h)
+
+-- A whole number whose bits were packed is read back too.
+pub whole-back : (n : ℕ) (ps : List Part) → Fit ps → widths ps ≡ 8 * n → (k : ℕ) → k < length ps → (w : ℕ) (z : ℤ) → 1 ≤ w → Held w z
+    → getD ps k nothing .value ≡ bitsOf w z → twos w (fieldAt (widthsOf ps) (bytesOf n (packed ps)) k) ≡ z
+whole-back n ps f all k h w z one held e = ap (twos w) (read-back n ps f all k h ∙ e) ∙ twos-of-bits w z one held

@@ -5,14 +5,14 @@ use mathlib.Core.Bool.{Bool, true, false, not, true≢false}
 use native.Mathlib.Omega.{arith}
 use borrow.Author.Tests.{ltb-true, ltb-false, lt-leb, le-leb, lt-ltb, le-ltb}
 use lib.IntN.{ℤ, pos, negsuc, _-ℤ_}
-use lib.Dec.{ltb, leb}
-use lib.Pow.{ones-split, ones-lt, high}
+use lib.Dec.{ltb, leb, eqb}
+use lib.Pow.{pow-mono, ones-split, ones-lt, high}
 use lib.Signed.{ltZ, leZ, mag}
 use mir.Facts.{toZ-ofZ}
 use mir.Syntax.{w64}
 use mir.Val.{SFits, toZ, ofZ}
 use Rattle.refusals.specs.Table.{pick}
-use Rattle.bits.specs.Field.{twos, bitsOf, Held}
+use Rattle.bits.specs.Field.{twos, bitsOf, Held, flag}
 
 pub minus-one-minus : (m : ℕ) → negsuc 0 -ℤ pos m ≡ negsuc m
 minus-one-minus zero = refl
@@ -58,6 +58,13 @@ module _ {a b : ℤ} (fa : SFits w64 a) (fb : SFits w64 b) where
 -- A number that a word holds comes out as it went in.
 pub held-as : {z y : ℤ} → mag z < 2 ^ 63 → z ≡ y → toZ w64 (ofZ w64 z) ≡ y
 held-as h e = toZ-ofZ {w = w64} (record { sfits = h }) ∙ e
+
+-- So does a number that some width holds, where it is passed on.
+pub passed : (w : ℕ) (z : ℤ) → Held w z → w ≤ 64 → toZ w64 (ofZ w64 z) ≡ z
+passed w z h l = held-as (omega (arith, pow-mono {i = w - 1} {j = 63} (omega arith))) refl
+
+pub held-passed : (w : ℕ) (z : ℤ) → Held w z → w ≤ 64 → Held w (toZ w64 (ofZ w64 z))
+held-passed w z h l = rw (passed w z h l) h
 
 -- The greatest number of some width is all ones of 64 bits, shifted down.
 pub ones-shifted : (w : ℕ) → w ≤ 64 → 18446744073709551615 / 2 ^ (64 - w) ≡ 2 ^ w - 1
@@ -108,3 +115,17 @@ bits-of-twos w x h l = by-test (ltb x (2 ^ (w - 1))) refl
     by-test : (t : Bool) → ltb x (2 ^ (w - 1)) ≡ t → (bitsOf w (pick (ltb x (2 ^ (w - 1))) (pos x) (negsuc (2 ^ w - 1 - x))) ≡ x) × Held w (pick (ltb x (2 ^ (w - 1))) (pos x) (negsuc (2 ^ w - 1 - x)))
     by-test true e = rw e (refl, ltb-true x (2 ^ (w - 1)) e)
     by-test false e = rw e (omega arith, omega (arith, half w h, ltb-false x (2 ^ (w - 1)) e))
+
+-- A yes or no fits its bit, and is read back from it.
+pub flag-below : (b : Bool) → flag b < 2
+flag-below true = omega arith
+flag-below false = omega arith
+
+pub flag-back : (b : Bool) → eqb (flag b) 1 ≡ b
+flag-back true = refl
+flag-back false = refl
+
+pub flag-again : (x : ℕ) → x < 2 → flag (eqb x 1) ≡ x
+flag-again zero h = refl
+flag-again (suc zero) h = refl
+flag-again (suc (suc x)) h = absurd (omega arith)

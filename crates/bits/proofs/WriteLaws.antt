@@ -4,6 +4,7 @@ use mathlib.Core.Path.{_≡_, refl, sym, ap, ap₂, _∙_}
 use mathlib.Core.List.{List, [], _∷_, _++_, append-assoc, append-nil}
 use native.Mathlib.Nat.{add-zero, add-suc}
 use native.Mathlib.Omega.{arith}
+use lib.Arith.{digits-lt}
 use lib.ListN.{length, length-append}
 use lib.Pow.{pow-add}
 use Rattle.bits.specs.Layout.{Part, widths, packed, bytesOf, put}
@@ -31,6 +32,9 @@ bytes-split m (suc n) front back h =
 pub record Chunk : Type 0 where
   pub count : ℕ
   pub number : ℕ
+
+abbrev pub chunk : ℕ → ℕ → Chunk
+chunk count number = record { count = count; number = number }
 
 abbrev pub fieldsOf : List Chunk → List Part
 fieldsOf [] = []
@@ -79,8 +83,25 @@ unfolding bytesAll
 put-packed buffer at c cs room f =
     put-from buffer at (bytesOf (c .count) (c .number)) (c .count) cs (length-bytesOf (c .count) (c .number)) (omega arith) ∙ ap (put buffer at) (bytes-all (c ∷ cs) f)
 
--- Two fields side by side make one.
-pub packed-joined : (p q : Part) (ps : List Part)
-    → packed (p ∷ (q ∷ ps)) ≡ packed (record { width = p .width + q .width; value = p .value * 2 ^ q .width + q .value } ∷ ps)
+widths-append : (fs ps : List Part) → widths (fs ++ ps) ≡ widths fs + widths ps
+unfolding widths
+widths-append [] ps = omega arith
+widths-append (f ∷ fs) ps = rw (widths-append fs ps) (omega arith)
+
+-- Fields in front made one: they are the same number, and it fits.
+abbrev pub group : List Part → Part
+group fs = record { width = widths fs; value = packed fs }
+
+pub packed-group : (fs ps : List Part) → packed (group fs ∷ ps) ≡ packed (fs ++ ps)
 unfolding widths packed
-packed-joined p q ps = rw (pow-add 2 (q .width) (widths ps)) (omega arith)
+packed-group [] ps = omega arith
+packed-group (f ∷ fs) ps =
+    let power = pow-add 2 (widths fs) (widths ps) in
+    rw (widths-append fs ps, power, ← packed-group fs ps) (omega arith)
+
+pub fit-group : (fs ps : List Part) → Fit (fs ++ ps) → Fit (group fs ∷ ps)
+unfolding widths packed
+fit-group [] ps f = (omega arith, f)
+fit-group (q ∷ fs) ps (v, f) =
+    let (w, g) = fit-group fs ps f in
+    (rw (pow-add 2 (q .width) (widths fs)) (digits-lt v w), g)

@@ -3,7 +3,8 @@
 use Prim.Native.Nat.{ℕ, zero, suc, _+_, _*_, _/_, _%_, _^_}
 use mathlib.Core.List.{List, [], _∷_, _++_}
 use lib.ListN.{length, take, drop, getD}
-use Rattle.bits.specs.Field.{field}
+use lib.IntN.{ℤ}
+use Rattle.bits.specs.Field.{field, twos}
 
 -- Where field k of a layout begins: after the fields before it.
 abbrev pub offset : List ℕ → ℕ → ℕ
@@ -14,6 +15,10 @@ offset (w ∷ ws) (suc k) = w + offset ws k
 -- The number in field k of a layout.
 abbrev pub fieldAt : List ℕ → List ℕ → ℕ → ℕ
 fieldAt layout s k = field s (offset layout k) (getD layout k 0)
+
+-- The whole number in field k of a layout.
+abbrev pub wholeAt : List ℕ → List ℕ → ℕ → ℤ
+wholeAt layout s k = twos (getD layout k 0) (fieldAt layout s k)
 
 -- A field's width and value.
 pub record Part : Type 0 where

@@ -149,6 +149,7 @@ pub fn read_signed(s: &[u8], at: usize, width: usize, least: i64, most: i64) -> 
 // A yes or no as one bit.
 pub fn flag(yes: bool) -> u64
     ensures { λ r. ⌜ r ≡ flag yes ⌝ }
+    ensures bit { λ r. ⌜ r < 2 ⌝ }
 {
     if yes { 1 } else { 0 }
 }

@@ -1,0 +1,50 @@
+-- A row that fits its fields: its numbers in whole bytes are its bytes, and it is read back from them.
+use Prim.Native.Nat.{ℕ, _+_, _≤_}
+use mathlib.Core.Path.{_≡_, refl, ap, _∙_}
+use mathlib.Core.List.{List, [], _∷_}
+use native.Mathlib.Omega.{arith}
+use lib.Dec.{eqb}
+use lib.ListN.{length, take}
+use Rattle.units.specs.Kinds.{modulus, grain}
+use Rattle.bits.specs.Field.{bitsOf}
+use Rattle.bits.specs.Layout.{Part, filled, widths, packed, bytesOf, put}
+use Rattle.bits.proofs.SignLaws.{bits-below, flag-below, flag-back}
+use Rattle.bits.proofs.LayoutLaws.{Fit, read-back, whole-back}
+use Rattle.bits.proofs.WriteLaws.{Chunk, chunk, fieldsOf, putFrom, put-packed, packed-group, fit-group}
+use Rattle.row.specs.declared.Row.{Row}
+use Rattle.row.specs.Rows.{rowLayout, rowLength, rowValues, rowBytes, rowOf, RowFits}
+
+abbrev parts : Row → List Part
+parts r = filled rowLayout (rowValues r)
+
+-- The first three fields together, the stress, and E times plastic strain fill whole bytes.
+abbrev pub front : Row → Chunk
+front r = chunk 3 (packed (take 3 (parts r)))
+
+abbrev pub rest : Row → List Chunk
+rest r = chunk 6 (bitsOf 48 (r .stress .0)) ∷ chunk 7 (bitsOf 56 (r .plastic .0)) ∷ []
+
+module _ (r : Row) (fits : RowFits r) where
+  fit : Fit (parts r)
+  fit =
+      (flag-below (r .yielded), (omega arith, (fits .tangent, (bits-below 48 (r .stress .0) (omega arith) (fits .stress), (bits-below 56 (r .plastic .0) (omega arith) (fits .plastic), tt)))))
+
+  -- Written one behind another they are the row.
+  pub put-row : (buffer : List ℕ) (at : ℕ) → at + rowLength ≤ length buffer
+      → putFrom (put buffer at (bytesOf 3 (front r .number))) at 3 (rest r) ≡ put buffer at (rowBytes r)
+  unfolding rowBytes widths
+  put-row buffer at room =
+      put-packed buffer at (front r) (rest r) room (fit-group (take 3 (parts r)) (fieldsOf (rest r)) fit)
+      ∙ ap (λ (x : ℕ). put buffer at (bytesOf rowLength x)) (packed-group (take 3 (parts r)) (fieldsOf (rest r)))
+
+  -- Reading what was written gives the row back.
+  pub row-back : rowOf (rowBytes r) ≡ r
+  unfolding rowBytes widths
+  row-back =
+      let number = read-back rowLength (parts r) fit refl in
+      let whole = whole-back rowLength (parts r) fit refl in
+      let yielded = ap (λ (x : ℕ). eqb x 1) (number 0 (omega arith)) ∙ flag-back (r .yielded) in
+      let tangent = number 2 (omega arith) in
+      let stress = whole 3 (omega arith) 48 (r .stress .0) (omega arith) (fits .stress) refl in
+      let plastic = whole 4 (omega arith) 56 (r .plastic .0) (omega arith) (fits .plastic) refl in
+      λ i. record { yielded = yielded i; tangent = modulus (tangent i); stress = grain (stress i); plastic = grain (plastic i) }

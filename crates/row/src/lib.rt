@@ -1,0 +1,41 @@
+// A result row: what a pair gave, in sixteen bytes.
+use units::Grain;
+use units::Modulus;
+ghost use mathlib.Core.Path.{_≡_};
+ghost use Prim.Native.Nat.{_+_, _≤_};
+ghost use lib.ListN.{length, take};
+ghost use Rattle.bits.specs.Layout.{filled, packed, put};
+ghost use Rattle.row.specs.Rows.{RowFits, rowBytes, rowLayout, rowLength, rowValues};
+
+// Bytes of a row.
+pub const ROW_LENGTH: usize = 16;
+
+// `plastic` is E times plastic strain.
+pub struct Row {
+    pub yielded: bool,
+    pub tangent: Modulus,
+    pub stress: Grain,
+    pub plastic: Grain,
+}
+
+impl Row {
+    // The first three fields as one number of 24 bits: yielded, three zero bits, tangent.
+    fn front(self) -> u64
+        requires { ⌜ RowFits self ⌝ }
+        ensures { λ r. ⌜ r ≡ packed (take 3 (filled rowLayout (rowValues self))) ⌝ }
+    {
+        let marks = bits::flag(self.yielded) * 8;
+        marks * 1048576 + self.tangent.0
+    }
+
+    // Writes the row at a place of a lent buffer.
+    pub fn write(self, buffer: &mut [u8], at: usize)
+        requires { ⌜ (at + rowLength ≤ length (now buffer)) × RowFits self ⌝ }
+        ensures { λ _. ⌜ now (buffer .exit) ≡ put (now (buffer .entry)) at (rowBytes self) ⌝ }
+    {
+        let front = self.front();
+        bits::write(buffer, at, 3, front);
+        bits::write_signed(buffer, at + 3, 6, self.stress.0);
+        bits::write_signed(buffer, at + 9, 7, self.plastic.0);
+    }
+}
