@@ -1,6 +1,6 @@
 -- Numbers of whole bytes written one behind another into a buffer: the bytes are those of the numbers packed side by side.
 use Prim.Native.Nat.{ℕ, zero, suc, _+_, _*_, _/_, _%_, _^_, _≤_, _<_}
-use mathlib.Core.Path.{_≡_, refl, sym, ap, ap₂, _∙_}
+use mathlib.Core.Path.{_≡_, refl, sym, ap, ap₂, subst, _∙_}
 use mathlib.Core.List.{List, [], _∷_, _++_, append-assoc, append-nil}
 use native.Mathlib.Nat.{add-zero, add-suc}
 use native.Mathlib.Omega.{arith}
@@ -77,7 +77,7 @@ put-from buffer at front from (c ∷ cs) e room =
     rw (behind, put-from buffer at (front ++ bytes) (from + c .count) cs more (omega arith), append-assoc front bytes (bytesAll cs))
 
 -- Numbers written one behind another are their packed bytes written at once.
-pub put-packed : (buffer : List ℕ) (at : ℕ) (c : Chunk) (cs : List Chunk) → at + counted (c ∷ cs) ≤ length buffer → Fit (fieldsOf (c ∷ cs))
+put-packed : (buffer : List ℕ) (at : ℕ) (c : Chunk) (cs : List Chunk) → at + counted (c ∷ cs) ≤ length buffer → Fit (fieldsOf (c ∷ cs))
     → putFrom (put buffer at (bytesOf (c .count) (c .number))) at (c .count) cs ≡ put buffer at (bytesOf (counted (c ∷ cs)) (packed (fieldsOf (c ∷ cs))))
 unfolding bytesAll
 put-packed buffer at c cs room f =
@@ -89,19 +89,28 @@ widths-append [] ps = omega arith
 widths-append (f ∷ fs) ps = rw (widths-append fs ps) (omega arith)
 
 -- Fields in front made one: they are the same number, and it fits.
-abbrev pub group : List Part → Part
+abbrev group : List Part → Part
 group fs = record { width = widths fs; value = packed fs }
 
-pub packed-group : (fs ps : List Part) → packed (group fs ∷ ps) ≡ packed (fs ++ ps)
+packed-group : (fs ps : List Part) → packed (group fs ∷ ps) ≡ packed (fs ++ ps)
 unfolding widths packed
 packed-group [] ps = omega arith
 packed-group (f ∷ fs) ps =
     let power = pow-add 2 (widths fs) (widths ps) in
     rw (widths-append fs ps, power, ← packed-group fs ps) (omega arith)
 
-pub fit-group : (fs ps : List Part) → Fit (fs ++ ps) → Fit (group fs ∷ ps)
+fit-group : (fs ps : List Part) → Fit (fs ++ ps) → Fit (group fs ∷ ps)
 unfolding widths packed
 fit-group [] ps f = (omega arith, f)
 fit-group (q ∷ fs) ps (v, f) =
     let (w, g) = fit-group fs ps f in
     (rw (pow-add 2 (q .width) (widths fs)) (digits-lt v w), g)
+
+-- A layout written in whole bytes: some fields in front as one number of n bytes, and then the others.
+pub put-layout : (buffer : List ℕ) (at : ℕ) (fs : List Part) (n : ℕ) (cs : List Chunk) → widths fs ≡ 8 * n → at + (n + counted cs) ≤ length buffer → Fit (fs ++ fieldsOf cs)
+    → putFrom (put buffer at (bytesOf n (packed fs))) at n cs ≡ put buffer at (bytesOf (n + counted cs) (packed (fs ++ fieldsOf cs)))
+put-layout buffer at fs n cs e room f =
+    let parts = fieldsOf cs in
+    let fields : group fs ∷ parts ≡ record { width = 8 * n; value = packed fs } ∷ parts = ap (λ (w : ℕ). record { width = w; value = packed fs } ∷ parts) e in
+    put-packed buffer at (chunk n (packed fs)) cs room (subst Fit fields (fit-group fs parts f))
+    ∙ ap (λ (x : ℕ). put buffer at (bytesOf (n + counted cs) x)) (ap packed (sym fields) ∙ packed-group fs parts)

@@ -10,17 +10,14 @@ use Rattle.bits.specs.Field.{bitsOf}
 use Rattle.bits.specs.Layout.{Part, filled, widths, packed, bytesOf, put}
 use Rattle.bits.proofs.SignLaws.{bits-below, flag-below, flag-back}
 use Rattle.bits.proofs.LayoutLaws.{Fit, read-back, whole-back}
-use Rattle.bits.proofs.WriteLaws.{Chunk, chunk, fieldsOf, putFrom, put-packed, packed-group, fit-group}
+use Rattle.bits.proofs.WriteLaws.{Chunk, chunk, putFrom, put-layout}
 use Rattle.row.specs.declared.Row.{Row}
 use Rattle.row.specs.Rows.{rowLayout, rowLength, rowValues, rowBytes, rowOf, RowFits}
 
 abbrev parts : Row → List Part
 parts r = filled rowLayout (rowValues r)
 
--- The first three fields together, the stress, and E times plastic strain fill whole bytes.
-abbrev pub front : Row → Chunk
-front r = chunk 3 (packed (take 3 (parts r)))
-
+-- The stress and E times plastic strain, which fill whole bytes, as the first three fields do together.
 abbrev pub rest : Row → List Chunk
 rest r = chunk 6 (bitsOf 48 (r .stress .0)) ∷ chunk 7 (bitsOf 56 (r .plastic .0)) ∷ []
 
@@ -31,11 +28,9 @@ module _ (r : Row) (fits : RowFits r) where
 
   -- Written one behind another they are the row.
   pub put-row : (buffer : List ℕ) (at : ℕ) → at + rowLength ≤ length buffer
-      → putFrom (put buffer at (bytesOf 3 (front r .number))) at 3 (rest r) ≡ put buffer at (rowBytes r)
+      → putFrom (put buffer at (bytesOf 3 (packed (take 3 (parts r))))) at 3 (rest r) ≡ put buffer at (rowBytes r)
   unfolding rowBytes widths
-  put-row buffer at room =
-      put-packed buffer at (front r) (rest r) room (fit-group (take 3 (parts r)) (fieldsOf (rest r)) fit)
-      ∙ ap (λ (x : ℕ). put buffer at (bytesOf rowLength x)) (packed-group (take 3 (parts r)) (fieldsOf (rest r)))
+  put-row buffer at room = put-layout buffer at (take 3 (parts r)) 3 (rest r) refl room fit
 
   -- Reading what was written gives the row back.
   pub row-back : rowOf (rowBytes r) ≡ r

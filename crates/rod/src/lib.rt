@@ -1,0 +1,22 @@
+// A rod: what it remembers, by value.
+use law::Law;
+use units::Grain;
+use units::Nano;
+use units::Tenths;
+
+mod fields; // fields.rt: the readers of the fields that have a range
+pub mod state; // state.rt: a rod in bytes
+pub mod variables; // variables.rt: what the two variables are under each law
+
+// `yielded` is the last pair's. `first` is an abscissa or the kinematic centre, `second` the compression abscissa, or 0.
+pub struct Rod {
+    pub law: Law,
+    pub yielded: bool,
+    pub strain: Nano,
+    pub temperature: Tenths,
+    pub stress: Grain,
+    pub first: Grain,
+    pub second: Grain,
+    pub pairs: u64,
+    pub yielded_pairs: u64,
+}
