@@ -11,7 +11,7 @@ use Rattle.refusals.specs.Table.{passes}
 use Rattle.law.specs.declared.Law.{Law}
 use Rattle.units.specs.Kinds.{nano, tenths, grain}
 use Rattle.bits.specs.Layout.{fieldAt}
-use Rattle.bits.proofs.RangeLaws.{unsigned-out, unsigned-in, unsigned-if-out, unsigned-if-in, signed-if-out, signed-if-in, zero-only}
+use Rattle.bits.proofs.RangeLaws.{unsigned-out, unsigned-in, unsigned-if-out, unsigned-if-in, signed-if-out, signed-if-in, within-itself}
 use Rattle.bits.proofs.SignLaws.{held-as}
 use Rattle.rod.specs.Variables.{firstRight, secondRight}
 use Rattle.rod.specs.States.{stateLayout, lawNumber, yielded, zeroBits, first, second, yieldedPairs, pairs, countsRight}
@@ -23,7 +23,7 @@ returns : tie.Need-returns
 returns c =
     let a = c .before .before in
     let s = a .before .before .before .before .args .s .now in
-    refused-by s 0 (sym (zero-only (zeroBits s)) ∙ unsigned-out s 3 5 0 0 (sym (a .read-unsigned .ensures) ∙ c .enum-told2 .given .1))
+    refused-by s 0 (sym (within-itself 0 (zeroBits s)) ∙ unsigned-out s 3 5 0 0 (sym (a .read-unsigned .ensures) ∙ c .enum-told2 .given .1))
 
 returns-2 : tie.Need-returns-2
 returns-2 c =
@@ -104,7 +104,7 @@ returns-8 c =
     let second-is = held-as (n-read .before .known-told5 .given .0 .1) (second-in .1) in
     ap passes
     (λ i. record { law = law i; yielded = eqb (front .read .ensures i) 1; strain = nano (strain-is i); temperature = tenths (temperature-is i); stress = grain (stress-is i); first = grain (first-is i); second = grain (second-is i); pairs = n-read .read2 .ensures i; «yielded_pairs» = k .1 i })
-    ∙ passed-by s (sym (zero-only (zeroBits s)) ∙ zero .0, (strain .0, (temperature .0, (stress .0, (under s firstRight (first s) law (first-in .0), (under s secondRight (second s) law (second-in .0), (counts s (front .read .ensures) (n-read .read2 .ensures) (k .0), tt)))))))
+    ∙ passed-by s (sym (within-itself 0 (zeroBits s)) ∙ zero .0, (strain .0, (temperature .0, (stress .0, (under s firstRight (first s) law (first-in .0), (under s secondRight (second s) law (second-in .0), (counts s (front .read .ensures) (n-read .read2 .ensures) (k .0), tt)))))))
 
 pub read-fields-spec : {M : Type 1} → statement M
 read-fields-spec =
