@@ -1,3 +1,4 @@
 pub mod Sheets
 pub mod Parts
 pub mod Sound
+pub mod Thermal

@@ -8,11 +8,18 @@ use units::Expansion;
 use units::Length;
 use units::Magnitude;
 use units::Modulus;
+use units::Nano;
 use units::Tenths;
 ghost use mathlib.Core.Path.{_≡_};
 ghost use Prim.Native.Nat.{_≤_, _<_};
 ghost use mathlib.Core.List.{[]};
+ghost use mathlib.Core.Bool.{true};
+ghost use lib.IntN.{natAbs};
 ghost use Rattle.refusals.specs.Table.{firstOf};
+ghost use Rattle.ranges.specs.Ranges.{temperatureRight};
+ghost use Rattle.units.specs.Kinds.{nano};
+ghost use Rattle.sheet.specs.Sound.{SheetSound};
+ghost use Rattle.sheet.specs.Thermal.{thermalOf};
 ghost use Rattle.sheet.specs.Sheets.{mostTension, compressionOf, modulusIn, tangentsRight, sevenPlaces, fieldRefusals, sheetRefusals, sheetOf, readMeaning};
 ghost use Rattle.sheet.specs.Parts.{countsIn, constantsIn, yieldsIn, numbersIn, leastLength, segmentsRead, acceptedAs};
 
@@ -379,4 +386,15 @@ pub fn read(s: &[u8]) -> SheetRead
         return refused(Verdict::WrongLength);
     }
     read_fields(s)
+}
+
+// The thermal strain at a temperature.
+pub fn thermal(sheet: Sheet, temperature: Tenths) -> Nano
+    requires { ⌜ SheetSound sheet × (temperatureRight (temperature .0) ≡ true) ⌝ }
+    ensures { λ r. ⌜ r ≡ nano (thermalOf sheet (temperature .0)) ⌝ }
+    ensures most { λ r. ⌜ natAbs (r .0) ≤ 400000000 ⌝ }
+{
+    let reference = sheet.reference;
+    let expansion = sheet.expansion;
+    temperature.minus(reference).times(expansion)
 }
