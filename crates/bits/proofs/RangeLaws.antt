@@ -2,12 +2,12 @@
 use Prim.Native.Nat.{ℕ, _<_}
 use mathlib.Core.Path.{_≡_, refl, sym, ap, _∙_}
 use mathlib.Core.Option.{Option, some, none}
-use mathlib.Core.Bool.{Bool, true, false}
+use mathlib.Core.Bool.{Bool, true, false, _&&_}
 use mathlib.Core.List.{List}
 use native.Mathlib.Decide.{decLt}
 use native.Mathlib.Omega.{arith}
 use lib.IntN.{ℤ}
-use lib.Dec.{eqb}
+use lib.Dec.{eqb, leb}
 use borrow.Author.Tests.{le-leb, lt-leb, eq-eqb, ne-eqb}
 use Rattle.refusals.specs.Table.{pick}
 use Rattle.bits.specs.declared.Unsigned.{Unsigned}
@@ -48,6 +48,10 @@ within-itself n x = by-order (decLt x n) (decLt n x)
     by-order (yes h) d = rw (lt-leb n x h, ne-eqb x n (λ e. omega arith))
     by-order (no h) (yes l) = rw (le-leb n x (omega arith), lt-leb x n l, ne-eqb x n (λ e. omega arith))
     by-order (no h) (no l) = rw (le-leb n x (omega arith), le-leb x n (omega arith), eq-eqb x n (omega arith))
+
+-- Only zero is at most zero.
+pub none-above-zero : (x : ℕ) → leb x 0 ≡ eqb x 0
+none-above-zero x = sym (ap (λ (t : Bool). t && leb x 0) (le-leb 0 x (omega arith))) ∙ within-itself 0 x
 
 unsigned : Answers ℕ Unsigned
 unsigned = record { value = Unsigned.Value; out = Unsigned.OutOfRange; held = elim [ Unsigned.Value x ↦ some x | Unsigned.OutOfRange ↦ none ]; held-value = λ x. refl; held-out = refl }

@@ -1,1 +1,3 @@
 pub mod ReadLaws
+pub mod LimitLaws
+pub mod RangeFacts

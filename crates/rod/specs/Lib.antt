@@ -1,2 +1,5 @@
 pub mod Variables
 pub mod States
+pub mod Limits
+pub mod Against
+pub mod Forecast

@@ -4,7 +4,9 @@ use units::Grain;
 use units::Nano;
 use units::Tenths;
 
+pub mod against; // against.rt: a rod against a sheet
 mod fields; // fields.rt: the readers of the fields that have a range
+pub mod forecast; // forecast.rt: the tangent modulus to expect
 pub mod state; // state.rt: a rod in bytes
 pub mod variables; // variables.rt: what the two variables are under each law
 

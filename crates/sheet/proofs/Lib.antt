@@ -1,3 +1,4 @@
 pub mod SheetLaws
 pub mod PartLaws
 pub mod Passed
+pub mod SideReadable

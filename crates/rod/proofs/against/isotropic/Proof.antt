@@ -1,0 +1,46 @@
+use mathlib.Core.Path.{_≡_, sym, ap₂, _∙_}
+use borrow.Author.Needs.{needs}
+use borrow.Author.Tests.{not-true, not-false}
+use lib.IntN.{pos, natAbs}
+use Rattle.units.specs.declared.Magnitude.{Magnitude}
+use Rattle.rod.specs.Limits.{withinLimit}
+use Rattle.rod.specs.Against.{isotropicBelongs}
+use Rattle.rod.proofs.against.isotropic.Statement.{statement}
+use Rattle.rod.proofs.against.isotropic.Tie as tie
+
+inside : (c : tie.After-within-limit) → let a = c .before .before .before .before .before .before .before .before .before .args in
+    c .within-limit .result ≡ withinLimit (a .sheet .modulus .0) (a .sheet .tension) (natAbs (a .rod .first .0)) (pos (natAbs (a .rod .stress .0)))
+inside c =
+    let a = c .before .before .before .before .before .before .before .before .before .args in
+    c .within-limit .ensures
+    ∙ ap₂ (λ (m n : Magnitude). withinLimit (a .sheet .modulus .0) (a .sheet .tension) (m .0) (pos (n .0))) (c .before .before .magnitude .ensures) (c .before .magnitude2 .ensures)
+
+returns : tie.Need-returns
+unfolding isotropicBelongs
+returns c = rw (sym (c .before .past-yield .ensures) ∙ not-true _ (c .if1 .taken))
+
+returns-2 : tie.Need-returns-2
+unfolding isotropicBelongs
+returns-2 c =
+    let first = c .before .before .before .before in
+    rw (sym (first .before .past-yield .ensures) ∙ not-false _ (first .if1 .left), sym (inside (c .before)) ∙ not-true _ (c .if2 .taken))
+
+returns-3 : tie.Need-returns-3
+unfolding isotropicBelongs
+returns-3 c =
+    let second = c .before in
+    let first = second .before .before .before .before in
+    rw (sym (first .before .past-yield .ensures) ∙ not-false _ (first .if1 .left), sym (inside (second .before)) ∙ not-false _ (second .if2 .left)) (c .no-second .ensures)
+
+pub isotropic-spec : {M : Type 1} → statement M
+isotropic-spec =
+    tie.close
+    (tie.spec
+    (λ c κs. search needs)
+    returns
+    (λ c κs. search needs)
+    (λ c κs. search needs)
+    (λ c κs. search needs)
+    returns-2
+    (λ c κs. search needs)
+    returns-3)
