@@ -1,11 +1,10 @@
 -- Numbers of whole bytes written one behind another into a buffer: the bytes are those of the numbers packed side by side.
 use Prim.Native.Nat.{ℕ, zero, suc, _+_, _*_, _/_, _%_, _^_, _≤_, _<_}
-use mathlib.Core.Path.{_≡_, refl, sym, ap, ap₂, subst, _∙_}
+use mathlib.Core.Path.{_≡_, sym, ap, ap₂, subst, _∙_}
 use mathlib.Core.List.{List, [], _∷_, _++_, append-assoc, append-nil}
-use native.Mathlib.Nat.{add-zero, add-suc}
+use native.Mathlib.Nat.{add-zero, add-suc, add-assoc}
 use native.Mathlib.Omega.{arith}
-use lib.Arith.{digits-lt}
-use lib.ListN.{length, length-append}
+use lib.ListN.{length}
 use lib.Pow.{pow-add}
 use Rattle.bits.specs.Layout.{Part, widths, packed, bytesOf, put}
 use Rattle.bits.proofs.PutLaws.{length-bytesOf, put-behind}
@@ -28,6 +27,43 @@ bytes-split m (suc n) front back h =
     pow-more : 2 ^ (8 * suc n) ≡ 2 ^ (8 * n) * 256
     pow-more = let more : 8 * suc n ≡ 8 * n + 8 = omega arith in rw (more, pow-add 2 (8 * n) 8)
 
+pub packed-alone : (p : Part) → packed (p ∷ []) ≡ p .value
+unfolding widths packed
+packed-alone p = omega arith
+
+widths-append : (fs ps : List Part) → widths (fs ++ ps) ≡ widths fs + widths ps
+unfolding widths
+widths-append [] ps = omega arith
+widths-append (f ∷ fs) ps = rw (widths-append fs ps) (omega arith)
+
+packed-append : (fs ps : List Part) → packed (fs ++ ps) ≡ packed fs * 2 ^ widths ps + packed ps
+unfolding widths packed
+packed-append [] ps = omega arith
+packed-append (f ∷ fs) ps =
+    rw (widths-append fs ps, pow-add 2 (widths fs) (widths ps), packed-append fs ps) (omega arith)
+
+pub fit-behind : (fs ps : List Part) → Fit (fs ++ ps) → Fit ps
+fit-behind [] ps f = f
+fit-behind (p ∷ fs) ps (v, f) = fit-behind fs ps f
+
+pub fit-front : (fs ps : List Part) → Fit (fs ++ ps) → Fit fs
+fit-front [] ps f = tt
+fit-front (p ∷ fs) ps (v, f) = (v, fit-front fs ps f)
+
+-- The bytes of some fields, and then those of the others behind them.
+bytes-append : (fs ps : List Part) (m n : ℕ) → widths ps ≡ 8 * n → Fit (fs ++ ps) → bytesOf m (packed fs) ++ bytesOf n (packed ps) ≡ bytesOf (m + n) (packed (fs ++ ps))
+bytes-append fs ps m n e f =
+    let below : packed ps < 2 ^ (8 * n) = rw e at (packed-below ps (fit-behind fs ps f)) in
+    sym (bytes-split m n (packed fs) (packed ps) below) ∙ ap (bytesOf (m + n)) (ap (λ (k : ℕ). packed fs * 2 ^ k + packed ps) (sym e) ∙ sym (packed-append fs ps))
+
+-- Some fields of a layout written, and then the others behind them, are the layout written.
+pub put-halves : (buffer : List ℕ) (at : ℕ) (fs ps : List Part) (m n : ℕ) → widths ps ≡ 8 * n → Fit (fs ++ ps) → at + m ≤ length buffer
+    → put (put buffer at (bytesOf m (packed fs))) (at + m) (bytesOf n (packed ps)) ≡ put buffer at (bytesOf (m + n) (packed (fs ++ ps)))
+put-halves buffer at fs ps m n e f room =
+    let long = length-bytesOf m (packed fs) in
+    ap (λ (k : ℕ). put (put buffer at (bytesOf m (packed fs))) (at + k) (bytesOf n (packed ps))) (sym long)
+    ∙ put-behind buffer at (bytesOf m (packed fs)) (bytesOf n (packed ps)) (rw long room) ∙ ap (put buffer at) (bytes-append fs ps m n e f)
+
 -- A number that is written in some whole bytes.
 pub record Chunk : Type 0 where
   pub count : ℕ
@@ -45,72 +81,22 @@ abbrev pub counted : List Chunk → ℕ
 counted [] = 0
 counted (c ∷ cs) = c .count + counted cs
 
-bytesAll : List Chunk → List ℕ
-bytesAll [] = []
-bytesAll (c ∷ cs) = bytesOf (c .count) (c .number) ++ bytesAll cs
-
 -- What a buffer holds once they were written one behind another, the first of them `from` bytes behind the place.
 abbrev pub putFrom : List ℕ → ℕ → ℕ → List Chunk → List ℕ
 putFrom buffer at from [] = buffer
 putFrom buffer at from (c ∷ cs) = putFrom (put buffer (at + from) (bytesOf (c .count) (c .number))) at (from + c .count) cs
 
-widths-counted : (cs : List Chunk) → widths (fieldsOf cs) ≡ 8 * counted cs
-unfolding widths
-widths-counted [] = refl
-widths-counted (c ∷ cs) = omega (arith, widths-counted cs)
-
-bytes-all : (cs : List Chunk) → Fit (fieldsOf cs) → bytesAll cs ≡ bytesOf (counted cs) (packed (fieldsOf cs))
-unfolding bytesAll bytesOf packed
-bytes-all [] f = refl
-bytes-all (c ∷ cs) (v, f) =
-    let below : packed (fieldsOf cs) < 2 ^ (8 * counted cs) = rw (widths-counted cs) at (packed-below (fieldsOf cs) f) in
-    rw (bytes-all cs f, widths-counted cs) (sym (bytes-split (c .count) (counted cs) (c .number) (packed (fieldsOf cs)) below))
-
-put-from : (buffer : List ℕ) (at : ℕ) (front : List ℕ) (from : ℕ) (cs : List Chunk) → length front ≡ from → at + from + counted cs ≤ length buffer
-    → putFrom (put buffer at front) at from cs ≡ put buffer at (front ++ bytesAll cs)
-unfolding bytesAll
-put-from buffer at front from [] e room = rw (append-nil front)
-put-from buffer at front from (c ∷ cs) e room =
-    let bytes = bytesOf (c .count) (c .number) in
-    let more : length (front ++ bytes) ≡ from + c .count = length-append front bytes ∙ ap₂ _+_ e (length-bytesOf (c .count) (c .number)) in
-    let behind : put (put buffer at front) (at + from) bytes ≡ put buffer at (front ++ bytes) = rw (← e) (put-behind buffer at front bytes (omega arith)) in
-    rw (behind, put-from buffer at (front ++ bytes) (from + c .count) cs more (omega arith), append-assoc front bytes (bytesAll cs))
-
--- Numbers written one behind another are their packed bytes written at once.
-put-packed : (buffer : List ℕ) (at : ℕ) (c : Chunk) (cs : List Chunk) → at + counted (c ∷ cs) ≤ length buffer → Fit (fieldsOf (c ∷ cs))
-    → putFrom (put buffer at (bytesOf (c .count) (c .number))) at (c .count) cs ≡ put buffer at (bytesOf (counted (c ∷ cs)) (packed (fieldsOf (c ∷ cs))))
-unfolding bytesAll
-put-packed buffer at c cs room f =
-    put-from buffer at (bytesOf (c .count) (c .number)) (c .count) cs (length-bytesOf (c .count) (c .number)) (omega arith) ∙ ap (put buffer at) (bytes-all (c ∷ cs) f)
-
-widths-append : (fs ps : List Part) → widths (fs ++ ps) ≡ widths fs + widths ps
-unfolding widths
-widths-append [] ps = omega arith
-widths-append (f ∷ fs) ps = rw (widths-append fs ps) (omega arith)
-
--- Fields in front made one: they are the same number, and it fits.
-abbrev group : List Part → Part
-group fs = record { width = widths fs; value = packed fs }
-
-packed-group : (fs ps : List Part) → packed (group fs ∷ ps) ≡ packed (fs ++ ps)
-unfolding widths packed
-packed-group [] ps = omega arith
-packed-group (f ∷ fs) ps =
-    let power = pow-add 2 (widths fs) (widths ps) in
-    rw (widths-append fs ps, power, ← packed-group fs ps) (omega arith)
-
-fit-group : (fs ps : List Part) → Fit (fs ++ ps) → Fit (group fs ∷ ps)
-unfolding widths packed
-fit-group [] ps f = (omega arith, f)
-fit-group (q ∷ fs) ps (v, f) =
-    let (w, g) = fit-group fs ps f in
-    (rw (pow-add 2 (q .width) (widths fs)) (digits-lt v w), g)
-
 -- A layout written in whole bytes: some fields in front as one number of n bytes, and then the others.
-pub put-layout : (buffer : List ℕ) (at : ℕ) (fs : List Part) (n : ℕ) (cs : List Chunk) → widths fs ≡ 8 * n → at + (n + counted cs) ≤ length buffer → Fit (fs ++ fieldsOf cs)
+pub put-layout : (buffer : List ℕ) (at : ℕ) (fs : List Part) (n : ℕ) (cs : List Chunk) → Fit (fs ++ fieldsOf cs) → at + (n + counted cs) ≤ length buffer
     → putFrom (put buffer at (bytesOf n (packed fs))) at n cs ≡ put buffer at (bytesOf (n + counted cs) (packed (fs ++ fieldsOf cs)))
-put-layout buffer at fs n cs e room f =
-    let parts = fieldsOf cs in
-    let fields : group fs ∷ parts ≡ record { width = 8 * n; value = packed fs } ∷ parts = ap (λ (w : ℕ). record { width = w; value = packed fs } ∷ parts) e in
-    put-packed buffer at (chunk n (packed fs)) cs room (subst Fit fields (fit-group fs parts f))
-    ∙ ap (λ (x : ℕ). put buffer at (bytesOf (n + counted cs) x)) (ap packed (sym fields) ∙ packed-group fs parts)
+unfolding widths packed
+put-layout buffer at fs n [] f room = rw (add-zero n, append-nil fs)
+put-layout buffer at fs n (c ∷ cs) f room =
+    let p : Part = record { width = 8 * c .count; value = c .number } in
+    let more = fs ++ (p ∷ []) in
+    let regrouped : more ++ fieldsOf cs ≡ fs ++ (p ∷ fieldsOf cs) = append-assoc fs (p ∷ []) (fieldsOf cs) in
+    let g : Fit (more ++ fieldsOf cs) = subst Fit (sym regrouped) f in
+    let next : put (put buffer at (bytesOf n (packed fs))) (at + n) (bytesOf (c .count) (c .number)) ≡ put buffer at (bytesOf (n + c .count) (packed more)) =
+    ap (λ (x : ℕ). put (put buffer at (bytesOf n (packed fs))) (at + n) (bytesOf (c .count) x)) (sym (packed-alone p)) ∙ put-halves buffer at fs (p ∷ []) n (c .count) (omega arith) (fit-front more (fieldsOf cs) g) (omega arith) in
+    ap (λ (b : List ℕ). putFrom b at (n + c .count) cs) next ∙ put-layout buffer at more (n + c .count) cs g (omega arith)
+    ∙ ap₂ (λ (k : ℕ) (ps : List Part). put buffer at (bytesOf k (packed ps))) (add-assoc n (c .count) (counted cs)) regrouped

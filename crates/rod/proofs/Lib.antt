@@ -1,3 +1,4 @@
 pub mod ReadLaws
 pub mod LimitLaws
 pub mod RangeFacts
+pub mod StateLaws

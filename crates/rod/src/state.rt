@@ -7,8 +7,12 @@ use units::Grain;
 use units::Nano;
 use units::Tenths;
 ghost use mathlib.Core.Path.{_≡_};
+ghost use Prim.Native.Nat.{_+_, _≤_};
+ghost use lib.ListN.{drop, length, take};
 ghost use Rattle.refusals.specs.Table.{firstOf};
+ghost use Rattle.bits.specs.Layout.{bytesOf, filled, packed, put};
 ghost use Rattle.rod.specs.States.{fieldRefusals, readMeaning, stateOf, stateRefusals};
+ghost use Rattle.rod.specs.States.{stateBytes, stateLayout, stateLength, stateValues, zeroState, StateFits};
 
 // Bytes of a state.
 pub const STATE_LENGTH: usize = 37;
@@ -68,4 +72,55 @@ fn read_fields(s: &[u8]) -> StateRead
         pairs: pairs,
         yielded_pairs: yielded_pairs,
     })
+}
+
+impl Rod {
+    // Law, yielded bit and five zero bits as one byte.
+    fn front(self) -> u64
+        ensures { λ r. ⌜ r ≡ packed (take 3 (filled stateLayout (stateValues self))) ⌝ }
+    {
+        let law = self.law;
+        let yielded = bits::flag(self.yielded);
+        law.number() * 64 + yielded * 32
+    }
+
+    // The first six fields, up to the stress.
+    fn write_head(self, buffer: &mut [u8], at: usize)
+        requires { ⌜ (at + 13 ≤ length (now buffer)) × StateFits self ⌝ }
+        ensures { λ _. ⌜ now (buffer .exit) ≡ put (now (buffer .entry)) at (bytesOf 13 (packed (take 6 (filled stateLayout (stateValues self))))) ⌝ }
+    {
+        let front = self.front();
+        bits::write(buffer, at, 1, front);
+        bits::write_signed(buffer, at + 1, 4, self.strain.0);
+        bits::write_signed(buffer, at + 5, 2, self.temperature.0);
+        bits::write_signed(buffer, at + 7, 6, self.stress.0);
+    }
+
+    // The variables and the counts.
+    fn write_tail(self, buffer: &mut [u8], at: usize)
+        requires { ⌜ (at + 24 ≤ length (now buffer)) × StateFits self ⌝ }
+        ensures { λ _. ⌜ now (buffer .exit) ≡ put (now (buffer .entry)) at (bytesOf 24 (packed (drop 6 (filled stateLayout (stateValues self))))) ⌝ }
+    {
+        bits::write_signed(buffer, at, 8, self.first.0);
+        bits::write_signed(buffer, at + 8, 8, self.second.0);
+        bits::write(buffer, at + 16, 4, self.pairs);
+        bits::write(buffer, at + 20, 4, self.yielded_pairs);
+    }
+
+    // Writes the state at a place of a lent buffer.
+    pub fn write(self, buffer: &mut [u8], at: usize)
+        requires { ⌜ (at + stateLength ≤ length (now buffer)) × StateFits self ⌝ }
+        ensures { λ _. ⌜ now (buffer .exit) ≡ put (now (buffer .entry)) at (stateBytes self) ⌝ }
+    {
+        self.write_head(buffer, at);
+        self.write_tail(buffer, at + 13);
+    }
+}
+
+// Writes the zero state of a refusal at a place of a lent buffer.
+pub fn write_zero(buffer: &mut [u8], at: usize)
+    requires { ⌜ at + stateLength ≤ length (now buffer) ⌝ }
+    ensures { λ _. ⌜ now (buffer .exit) ≡ put (now (buffer .entry)) at zeroState ⌝ }
+{
+    bits::write(buffer, at, STATE_LENGTH, 0);
 }

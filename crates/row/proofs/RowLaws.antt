@@ -29,8 +29,8 @@ module _ (r : Row) (fits : RowFits r) where
   -- Written one behind another they are the row.
   pub put-row : (buffer : List ℕ) (at : ℕ) → at + rowLength ≤ length buffer
       → putFrom (put buffer at (bytesOf 3 (packed (take 3 (parts r))))) at 3 (rest r) ≡ put buffer at (rowBytes r)
-  unfolding rowBytes widths
-  put-row buffer at room = put-layout buffer at (take 3 (parts r)) 3 (rest r) refl room fit
+  unfolding rowBytes
+  put-row buffer at room = put-layout buffer at (take 3 (parts r)) 3 (rest r) fit room
 
   -- Reading what was written gives the row back.
   pub row-back : rowOf (rowBytes r) ≡ r
