@@ -13,7 +13,7 @@ use lib.IntN.{ℤ}
 use Rattle.bits.specs.Field.{field, twos, bitsOf, Held}
 use Rattle.bits.specs.Layout.{Part, offset, fieldAt, filled, widths, packed, bytesOf}
 use Rattle.bits.proofs.FieldLaws.{field-below, field-split, field-byte, field-inside}
-use Rattle.bits.proofs.SignLaws.{twos-of-bits}
+use Rattle.bits.proofs.SignLaws.{twos-of-bits, bits-of-twos}
 use Rattle.bits.proofs.PutLaws.{length-bytesOf}
 
 -- Bytes are numbers below 256.
@@ -128,3 +128,7 @@ read-back n ps f all k h =
 pub whole-back : (n : ℕ) (ps : List Part) → Fit ps → widths ps ≡ 8 * n → (k : ℕ) → k < length ps → (w : ℕ) (z : ℤ) → 1 ≤ w → Held w z
     → getD ps k nothing .value ≡ bitsOf w z → twos w (fieldAt (widthsOf ps) (bytesOf n (packed ps)) k) ≡ z
 whole-back n ps f all k h w z one held e = ap (twos w) (read-back n ps f all k h ∙ e) ∙ twos-of-bits w z one held
+
+-- The whole number of a field has the field's bits, and the width holds it.
+pub whole-of-field : (s : List ℕ) (at w : ℕ) → 1 ≤ w → (bitsOf w (twos w (field s at w)) ≡ field s at w) × Held w (twos w (field s at w))
+whole-of-field s at w h = bits-of-twos w (field s at w) h (field-below s at w)

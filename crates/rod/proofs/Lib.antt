@@ -2,3 +2,5 @@ pub mod ReadLaws
 pub mod LimitLaws
 pub mod RangeFacts
 pub mod StateLaws
+pub mod RoundTrip
+pub mod UnusedLaws

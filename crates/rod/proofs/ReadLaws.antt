@@ -1,15 +1,16 @@
 -- Refusal 5 by the tests of the single fields: one that fails gives 5, and where none fails the rod passes.
 use Prim.Native.Nat.{ℕ, zero, suc}
-use mathlib.Core.Path.{_≡_, refl}
+use mathlib.Core.Path.{_≡_, refl, sym, _∙_}
 use mathlib.Core.Bool.{Bool, true, false, _&&_, and-false, true≢false}
 use mathlib.Core.List.{List, [], _∷_}
 use lib.Dec.{eqb}
 use lib.ListN.{getD}
 use Rattle.refusals.specs.Table.{firstOf, passes, refused}
 use Rattle.ranges.specs.Ranges.{around, temperatureRight, mostStrain, mostStress}
-use Rattle.law.specs.Laws.{lawOf}
+use Rattle.bits.proofs.SignLaws.{both-true}
+use Rattle.rod.specs.declared.Rod.{Rod}
 use Rattle.rod.specs.Variables.{firstRight, secondRight}
-use Rattle.rod.specs.States.{lawNumber, yielded, zeroBits, strain, temperature, stress, first, second, pairs, yieldedPairs, stateOf, countsRight, inRange, fieldRefusals}
+use Rattle.rod.specs.States.{zeroBits, stateOf, countsRight, inRange, fieldRefusals}
 
 -- Tests joined from the first on.
 abbrev allOf : Bool → List Bool → Bool
@@ -34,22 +35,36 @@ all-true : (t : Bool) (us : List Bool) → AllTrue (t ∷ us) → allOf t us ≡
 all-true t [] (e, n) = e
 all-true t (u ∷ us) (e, (f, g)) = all-true (t && u) us (rw (e, f), g)
 
--- The tests of a state's fields, the zero bits first.
-abbrev rangeTests : List ℕ → List Bool
-rangeTests s =
-    temperatureRight (temperature s) ∷ around mostStress (stress s) ∷ firstRight (lawOf (lawNumber s)) (first s) ∷ secondRight (lawOf (lawNumber s)) (second s) ∷ countsRight (yielded s) (pairs s) (yieldedPairs s) ∷ []
+parts-true : (t : Bool) (us : List Bool) → allOf t us ≡ true → AllTrue (t ∷ us)
+parts-true t [] e = (e, tt)
+parts-true t (u ∷ us) e =
+    let (both, rest) = parts-true (t && u) us e in
+    let two = both-true t u both in
+    (two .0, (two .1, rest))
+
+-- The tests of a rod's ranges, and those of a state's fields: the zero bits come first.
+abbrev strainTest : Rod → Bool
+strainTest r = around mostStrain (r .strain .0)
+
+abbrev otherTests : Rod → List Bool
+otherTests r =
+    temperatureRight (r .temperature .0) ∷ around mostStress (r .stress .0) ∷ firstRight (r .law) (r .first .0) ∷ secondRight (r .law) (r .second .0) ∷ countsRight (r .yielded) (r .pairs) (r .«yielded_pairs») ∷ []
 
 abbrev pub tests : List ℕ → List Bool
-tests s = eqb (zeroBits s) 0 ∷ around mostStrain (strain s) ∷ rangeTests s
+tests s = eqb (zeroBits s) 0 ∷ strainTest (stateOf s) ∷ otherTests (stateOf s)
+
+in-range-is : (r : Rod) → inRange r ≡ allOf (strainTest r) (otherTests r)
+unfolding inRange
+in-range-is r = refl
+
+pub ranges-hold : (r : Rod) → inRange r ≡ true → AllTrue (strainTest r ∷ otherTests r)
+ranges-hold r e = parts-true (strainTest r) (otherTests r) (sym (in-range-is r) ∙ e)
 
 module _ (s : List ℕ) where
-  in-range-is : inRange (stateOf s) ≡ allOf (around mostStrain (strain s)) (rangeTests s)
-  unfolding inRange
-  in-range-is = refl
-
   failed : (k : ℕ) → getD (tests s) k true ≡ false → eqb (zeroBits s) 0 && inRange (stateOf s) ≡ false
   failed zero e = rw e
-  failed (suc k) e = rw (in-range-is, one-false (around mostStrain (strain s)) (rangeTests s) k e) (and-false (eqb (zeroBits s) 0))
+  failed (suc k) e =
+      rw (in-range-is (stateOf s), one-false (strainTest (stateOf s)) (otherTests (stateOf s)) k e) (and-false (eqb (zeroBits s) 0))
 
   pub refused-by : (k : ℕ) → getD (tests s) k true ≡ false → refused 5 ≡ firstOf (fieldRefusals s) (stateOf s)
   unfolding firstOf fieldRefusals
@@ -57,4 +72,4 @@ module _ (s : List ℕ) where
 
   pub passed-by : AllTrue (tests s) → passes (stateOf s) ≡ firstOf (fieldRefusals s) (stateOf s)
   unfolding firstOf fieldRefusals
-  passed-by (z, f) = rw (z, in-range-is, all-true (around mostStrain (strain s)) (rangeTests s) f)
+  passed-by (z, f) = rw (z, in-range-is (stateOf s), all-true (strainTest (stateOf s)) (otherTests (stateOf s)) f)

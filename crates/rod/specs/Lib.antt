@@ -3,3 +3,4 @@ pub mod States
 pub mod Limits
 pub mod Against
 pub mod Forecast
+pub mod Unused

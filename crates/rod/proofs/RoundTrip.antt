@@ -1,0 +1,126 @@
+-- States and rods: what was written is read back, what was read is written back, and neither tells less than the other.
+use Prim.Native.Nat.{ℕ, _<_, _^_}
+use mathlib.Core.Path.{_≡_, refl, sym, ap, _∙_}
+use mathlib.Core.Bool.{Bool, true, false, not, _&&_}
+use mathlib.Core.List.{List, [], _∷_}
+use native.Mathlib.Omega.{arith}
+use borrow.Author.Tests.{eqb-true, eq-eqb, leb-true}
+use lib.IntN.{ℤ}
+use lib.Dec.{eqb}
+use lib.ListN.{length}
+use Rattle.refusals.specs.Table.{firstOf, pick, passes, refused}
+use Rattle.ranges.specs.Ranges.{around, mostStrain, mostStress, mostAbscissa}
+use Rattle.law.specs.Laws.{lawOf}
+use Rattle.law.proofs.LawLaws.{law-of-number, number-of-law}
+use Rattle.units.specs.Kinds.{nano, tenths, grain}
+use Rattle.bits.specs.Field.{field, Held}
+use Rattle.bits.specs.Layout.{filled, widths, packed, bytesOf}
+use Rattle.bits.proofs.FieldLaws.{field-below}
+use Rattle.bits.proofs.SignLaws.{within-held, both-true, flag-back, flag-again}
+use Rattle.bits.proofs.PutLaws.{length-bytesOf}
+use Rattle.bits.proofs.LayoutLaws.{Bytes, read-back, whole-back, whole-of-field, fieldsFrom, written-back}
+use Rattle.rod.specs.declared.Rod.{Rod}
+use Rattle.rod.specs.Variables.{firstIsAbscissa, abscissaRight}
+use Rattle.rod.specs.States.{stateLayout, stateLength, zeroBits, stateOf, inRange, fieldRefusals, stateRefusals, stateValues, stateBytes, StateFits}
+use Rattle.rod.proofs.ReadLaws.{ranges-hold}
+use Rattle.rod.proofs.StateLaws.{parts, fit}
+
+-- Bytes that pass 4 and 5, with the rod that they give.
+abbrev pub Accepted : List ℕ → Rod → Type 0
+Accepted s r = firstOf (stateRefusals s) (stateOf s) ≡ passes r
+
+-- What it says: the length, the zero bits, the ranges, and which rod it is.
+pub record Passed (s : List ℕ) (r : Rod) : Type 0 where
+  pub long : length s ≡ stateLength
+  pub zeros : zeroBits s ≡ 0
+  pub ranges : inRange r ≡ true
+  pub rod : stateOf s ≡ r
+
+module _ (s : List ℕ) (r : Rod) where
+  by-fields : (t : Bool) → pick (not t) (refused 5) (passes (stateOf s)) ≡ passes r → (t ≡ true) × (stateOf s ≡ r)
+  by-fields true e = (refl, cc)
+  by-fields false e = absurd (let z : _≡_ {A = ℕ} 0 1 = cc in omega arith)
+
+  by-length : (t : Bool) → pick (not t) (refused 4) (firstOf (fieldRefusals s) (stateOf s)) ≡ passes r → (t ≡ true) × (firstOf (fieldRefusals s) (stateOf s) ≡ passes r)
+  by-length true e = (refl, e)
+  by-length false e = absurd (let z : _≡_ {A = ℕ} 0 1 = cc in omega arith)
+
+  pub accepted-passed : Accepted s r → Passed s r
+  unfolding firstOf fieldRefusals stateRefusals
+  accepted-passed e =
+      let (long, rest) = by-length (eqb (length s) stateLength) e in
+      let (both, rod) = by-fields (eqb (zeroBits s) 0 && inRange (stateOf s)) rest in
+      let two = both-true (eqb (zeroBits s) 0) (inRange (stateOf s)) both in
+      record { long = eqb-true _ _ long; zeros = eqb-true _ _ (two .0); ranges = ap inRange (sym rod) ∙ two .1; rod = rod }
+
+  pub passed-accepted : Passed s r → Accepted s r
+  unfolding firstOf fieldRefusals stateRefusals
+  passed-accepted p =
+      rw (eq-eqb _ _ (p .long), eq-eqb _ _ (p .zeros), p .rod, p .ranges)
+
+-- The rod of any bytes fits its fields,
+pub read-fits : (s : List ℕ) → StateFits (stateOf s)
+read-fits s =
+    record { strain = whole-of-field s 8 32 (omega arith) .1; temperature = whole-of-field s 40 16 (omega arith) .1; stress = whole-of-field s 56 48 (omega arith) .1; first = whole-of-field s 104 64 (omega arith) .1; second = whole-of-field s 168 64 (omega arith) .1; pairs = field-below s 232 32; yielded-pairs = field-below s 264 32 }
+
+-- and so does a rod in its ranges, where 64 bits hold its second variable and 32 bits its n.
+first-held : (t : Bool) (z : ℤ) → pick t (abscissaRight z) (around mostStress z) ≡ true → Held 64 z
+first-held true z e = within-held 64 0 mostAbscissa z (omega arith) (omega arith) e
+first-held false z e = within-held 64 mostStress mostStress z (omega arith) (omega arith) e
+
+pub in-range-fits : (r : Rod) → inRange r ≡ true → Held 64 (r .second .0) → r .pairs < 2 ^ 32 → StateFits r
+in-range-fits r e second n =
+    let (strain, (temperature, (stress, (first, (any, (counts, end)))))) = ranges-hold r e in
+    record { strain = within-held 32 mostStrain mostStrain (r .strain .0) (omega arith) (omega arith) strain; temperature = within-held 16 2000 20000 (r .temperature .0) (omega arith) (omega arith) temperature; stress = within-held 48 mostStress mostStress (r .stress .0) (omega arith) (omega arith) stress; first = first-held (firstIsAbscissa (r .law)) (r .first .0) first; second = second; pairs = n; yielded-pairs = omega (arith, leb-true (r .«yielded_pairs») (r .pairs) (both-true _ _ counts .0)) }
+
+module _ (r : Rod) (fits : StateFits r) where
+  -- Reading what was written gives the rod back.
+  pub rod-back : stateOf (stateBytes r) ≡ r
+  unfolding stateBytes widths
+  rod-back =
+      let number = read-back stateLength (parts r) (fit r fits) refl in
+      let whole = whole-back stateLength (parts r) (fit r fits) refl in
+      let law = ap lawOf (number 0 (omega arith)) ∙ law-of-number (r .law) in
+      let yielded = ap (λ (x : ℕ). eqb x 1) (number 1 (omega arith)) ∙ flag-back (r .yielded) in
+      let strain = whole 3 (omega arith) 32 (r .strain .0) (omega arith) (fits .strain) refl in
+      let temperature = whole 4 (omega arith) 16 (r .temperature .0) (omega arith) (fits .temperature) refl in
+      let stress = whole 5 (omega arith) 48 (r .stress .0) (omega arith) (fits .stress) refl in
+      let first = whole 6 (omega arith) 64 (r .first .0) (omega arith) (fits .first) refl in
+      let second = whole 7 (omega arith) 64 (r .second .0) (omega arith) (fits .second) refl in
+      λ i. record { law = law i; yielded = yielded i; strain = nano (strain i); temperature = tenths (temperature i); stress = grain (stress i); first = grain (first i); second = grain (second i); pairs = number 8 (omega arith) i; «yielded_pairs» = number 9 (omega arith) i }
+
+  -- The bytes of a rod in its ranges pass, and give that rod.
+  pub state-back : inRange r ≡ true → Accepted (stateBytes r) r
+  unfolding stateBytes widths
+  state-back e =
+      let long = length-bytesOf stateLength (packed (parts r)) in
+      let zeros = read-back stateLength (parts r) (fit r fits) refl 2 (omega arith) in
+      passed-accepted (stateBytes r) r (record { long = long; zeros = zeros; ranges = e; rod = rod-back })
+
+-- What accepted bytes put into the fields is what the fields held,
+values-again : (s : List ℕ) → zeroBits s ≡ 0 → stateValues (stateOf s) ≡ fieldsFrom 0 stateLayout s
+values-again s zeros =
+    let law = number-of-law (field s 0 2) (field-below s 0 2) in
+    let yielded = flag-again (field s 2 1) (field-below s 2 1) in
+    let strain = whole-of-field s 8 32 (omega arith) .0 in
+    let temperature = whole-of-field s 40 16 (omega arith) .0 in
+    let stress = whole-of-field s 56 48 (omega arith) .0 in
+    let first = whole-of-field s 104 64 (omega arith) .0 in
+    let second = whole-of-field s 168 64 (omega arith) .0 in
+    λ i. law i ∷ yielded i ∷ sym zeros i ∷ strain i ∷ temperature i ∷ stress i ∷ first i ∷ second i ∷ field s 232 32 ∷ field s 264 32 ∷ []
+
+-- so writing what was read gives the bytes back.
+pub bytes-again : (s : List ℕ) (r : Rod) → Bytes s → Accepted s r → stateBytes r ≡ s
+unfolding stateBytes widths
+bytes-again s r bytes accepted =
+    let p = accepted-passed s r accepted in
+    ap stateBytes (sym (p .rod)) ∙ ap (λ (vs : List ℕ). bytesOf stateLength (packed (filled stateLayout vs))) (values-again s (p .zeros))
+    ∙ written-back stateLayout s stateLength bytes (p .long) refl
+
+-- Two different rods never have the same bytes,
+pub bytes-tell-rods : (r q : Rod) → StateFits r → StateFits q → stateBytes r ≡ stateBytes q → r ≡ q
+bytes-tell-rods r q f g e = sym (rod-back r f) ∙ ap stateOf e ∙ rod-back q g
+
+-- and two different lists of bytes never give the same rod.
+pub rods-tell-bytes : (s t : List ℕ) (r : Rod) → Bytes s → Bytes t → Accepted s r → Accepted t r → s ≡ t
+rods-tell-bytes s t r bs bt es et = sym (bytes-again s r bs es) ∙ bytes-again t r bt et
