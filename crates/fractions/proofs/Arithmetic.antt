@@ -123,3 +123,20 @@ whole-add y z = is-eq (is-add (is-whole-one y) (is-whole-one z)) (is-whole-one (
 
 pub whole-sub : (y z : ℤ) → (whole y -F whole z) ≈F whole (y -ℤ z)
 whole-sub y z = is-eq (is-sub (is-whole-one y) (is-whole-one z)) (is-whole-one (y -ℤ z)) .1 (omega (arith, sub-parts-ℤ y z))
+
+-- ---- Within k
+
+module _ {x y : Frac} {k : ℕ} (h : Within k x y) where
+  pub within-sym : Within k y x
+  within-sym =
+      at-common (x ∷ y ∷ [])
+      (λ d ((_, _, i), ((_, _, j), _)). let near = is-within k i j .0 h in is-within k j i .1 (record { above = near .below; below = near .above }))
+
+  pub within-weaken : (g : ℕ) → Within (k + g) x y
+  within-weaken g =
+      at-common (x ∷ y ∷ [])
+      (λ d ((_, _, i), ((_, _, j), _)). let near = is-within k i j .0 h in is-within (k + g) i j .1 (record { above = omega arith; below = omega arith }))
+
+  pub within-same : {x′ y′ : Frac} → x ≈F x′ → y ≈F y′ → Within k x′ y′
+  within-same e f =
+      at-common (x ∷ y ∷ []) (λ d ((_, _, i), ((_, _, j), _)). is-within k (is-same e i) (is-same f j) .1 (is-within k i j .0 h))

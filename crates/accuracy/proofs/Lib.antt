@@ -1,0 +1,3 @@
+pub mod Move
+pub mod Magnitudes
+pub mod Moving

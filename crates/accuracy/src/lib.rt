@@ -1,0 +1,1 @@
+// Definitions and theorems only: the stored rod stays within k grains of the bar without rounding.
