@@ -1,3 +1,5 @@
 pub mod Move
 pub mod Magnitudes
 pub mod Moving
+pub mod Signs
+pub mod Isotropic

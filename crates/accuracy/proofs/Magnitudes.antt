@@ -182,3 +182,27 @@ module _ {side : Side} {g : ℕ} {x a y b : Frac} where
   pub no-more-than-trial : Move side g x a y b → y ≤F x
   no-more-than-trial (inl r) = ≤F-of-≈F (r .magnitude)
   no-more-than-trial (inr f) = f .lower
+
+-- ---- Where the signs differ: the two trials come to at most k together
+
+module _ (k g : ℕ) {x z : Frac} (h : (x +F z) ≤F whole (pos k)) where
+  pub trial-small : whole (pos 0) ≤F z → x ≤F whole (pos k)
+  trial-small l =
+      at-common (x ∷ z ∷ [])
+      (λ d ((_, _, i), ((_, _, j), _)).
+      let n = is-whole (pos k) (i .some) in
+      is-le i n .1 (omega (arith, is-le (is-whole (pos 0) (i .some)) j .0 l, is-le (is-add i j) n .0 h)))
+
+  pub exact-trial-small : whole (pos 0) ≤F x → z ≤F whole (pos (k + g))
+  exact-trial-small l =
+      at-common (x ∷ z ∷ [])
+      (λ d ((_, _, i), ((_, _, j), _)).
+      is-le j (is-whole (pos (k + g)) (i .some)) .1
+      (omega (arith, is-le (is-whole (pos 0) (i .some)) i .0 l, is-le (is-add i j) (is-whole (pos k) (i .some)) .0 h)))
+
+  pub magnitudes-small : {y w : Frac} → y ≤F x → w ≤F z → (y +F w) ≤F whole (pos (k + g))
+  magnitudes-small {y} {w} l m =
+      at-common (x ∷ z ∷ y ∷ w ∷ [])
+      (λ d ((_, _, i), ((_, _, j), ((_, _, u), ((_, _, v), _)))).
+      is-le (is-add u v) (is-whole (pos (k + g)) (i .some)) .1
+      (omega (arith, is-le u i .0 l, is-le v j .0 m, is-le (is-add i j) (is-whole (pos k) (i .some)) .0 h)))

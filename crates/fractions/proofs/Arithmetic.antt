@@ -8,6 +8,7 @@ use native.Mathlib.Decide.{decLe}
 use native.Mathlib.Omega.{arith}
 use lib.IntN.{ℤ, pos, negℤ, natAbs, _+ℤ_, _-ℤ_}
 use Rattle.fractions.specs.Fraction.{Frac, _≤F_, _<F_, _≈F_, whole, _+F_, negF, _-F_, absF, signed, signedF, timesF, Within}
+use Rattle.fractions.proofs.Comparison.{≈F-refl}
 use Rattle.fractions.proofs.Parts.{add-parts, sub-parts-ℤ}
 use Rattle.fractions.proofs.Common.{Is, is-own, is-same, is-scale, is-whole, is-whole-one, is-add, is-neg, is-sub, is-abs, is-signed-up, is-signed-dn, is-times, is-le, is-lt, is-eq, at-common}
 
@@ -140,3 +141,13 @@ module _ {x y : Frac} {k : ℕ} (h : Within k x y) where
   pub within-same : {x′ y′ : Frac} → x ≈F x′ → y ≈F y′ → Within k x′ y′
   within-same e f =
       at-common (x ∷ y ∷ []) (λ d ((_, _, i), ((_, _, j), _)). is-within k (is-same e i) (is-same f j) .1 (is-within k i j .0 h))
+
+-- The same whole number added to both.
+pub within-add : {k : ℕ} (z : ℤ) {x : Frac} (w : ℤ) → Within k (whole z) x → Within k (whole (z +ℤ w)) (x +F whole w)
+within-add {k} z {x} w h =
+    within-same
+    (at-common (whole z ∷ x ∷ whole w ∷ [])
+    (λ d ((_, _, i), ((_, _, j), ((_, _, l), _))).
+    let near = is-within k i j .0 h in
+    is-within k (is-add i l) (is-add j l) .1 (record { above = omega arith; below = omega arith })))
+    (whole-add z w) (≈F-refl (x +F whole w))
