@@ -3,3 +3,4 @@ pub mod Magnitudes
 pub mod Moving
 pub mod Signs
 pub mod Isotropic
+pub mod Asymmetric

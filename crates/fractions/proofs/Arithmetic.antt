@@ -151,3 +151,10 @@ within-add {k} z {x} w h =
     let near = is-within k i j .0 h in
     is-within k (is-add i l) (is-add j l) .1 (record { above = omega arith; below = omega arith })))
     (whole-add z w) (≈F-refl (x +F whole w))
+
+pub within-neg : {k : ℕ} {x y : Frac} → Within k x y → Within k (negF x) (negF y)
+within-neg {k} {x} {y} h =
+    at-common (x ∷ y ∷ [])
+    (λ d ((_, _, i), ((_, _, j), _)).
+    let near = is-within k i j .0 h in
+    is-within k (is-neg i) (is-neg j) .1 (record { above = omega arith; below = omega arith }))
