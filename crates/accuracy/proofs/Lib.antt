@@ -4,3 +4,5 @@ pub mod Moving
 pub mod Signs
 pub mod Isotropic
 pub mod Asymmetric
+pub mod Centre
+pub mod Kinematic

@@ -1,12 +1,13 @@
 -- Magnitudes and signs apart and back, and sums of numbers of one sign.
 use mathlib.Core.Path.{refl}
 use mathlib.Core.List.{[], _∷_}
+use mathlib.Core.Logic.{_⊎_, inl, inr}
 use Prim.Native.Nat.{ℕ, _≤_, _<_}
 use native.Mathlib.Decide.{decLe}
 use native.Mathlib.Omega.{arith}
 use lib.IntN.{pos}
-use Rattle.fractions.specs.Fraction.{Frac, _≤F_, _<F_, _≈F_, whole, _+F_, _-F_, absF, signedF, timesF}
-use Rattle.fractions.proofs.Common.{Is, is-whole, is-add, is-sub, is-abs, is-signed-up, is-signed-dn, is-times, is-le, is-lt, is-eq, at-common}
+use Rattle.fractions.specs.Fraction.{Frac, _≤F_, _<F_, _≈F_, whole, _+F_, _-F_, absF, signedF, timesF, negF}
+use Rattle.fractions.proofs.Common.{Is, is-whole, is-add, is-sub, is-abs, is-signed-up, is-signed-dn, is-times, is-le, is-lt, is-eq, at-common, is-own, is-neg}
 
 -- The magnitude with the sign put back.
 pub signed-abs : (x : Frac) → signedF x (absF x) ≈F x
@@ -91,3 +92,14 @@ signed-signed s {m} x h = at-common (s ∷ m ∷ x ∷ []) (λ d ((p, n, i), ((_
     go p n d u v p′ n′ i j k (no l) =
         let b : p < n = omega arith in
         is-eq (is-signed-dn (is-signed-dn i b j) (omega (arith, is-lt (is-whole (pos 0) (i .some)) j .0 h)) k) (is-signed-dn i b k) .1 refl
+
+-- A number is not negative, and its sign changes nothing, or it is negative, and its sign negates.
+pub sign-cases : (s : Frac)
+    → ((whole (pos 0) ≤F s) × ((x : Frac) → signedF s x ≈F x)) ⊎ ((s <F whole (pos 0)) × ((x : Frac) → signedF s x ≈F negF x))
+sign-cases s = at-common (s ∷ []) (λ d ((p, n, i), _). go p n d i (decLe n p))
+  where
+    go : (p n d : ℕ) → Is s p n d → Dec (n ≤ p)
+        → ((whole (pos 0) ≤F s) × ((x : Frac) → signedF s x ≈F x)) ⊎ ((s <F whole (pos 0)) × ((x : Frac) → signedF s x ≈F negF x))
+    go p n d i (yes h) = inl (is-le (is-whole (pos 0) (i .some)) i .1 (omega arith), λ x. is-eq (is-signed-up i h (is-own x)) (is-own x) .1 refl)
+    go p n d i (no h) =
+        inr (is-lt i (is-whole (pos 0) (i .some)) .1 (omega arith), λ x. is-eq (is-signed-dn i (omega arith) (is-own x)) (is-neg (is-own x)) .1 refl)
