@@ -6,3 +6,4 @@ pub mod SideRounding
 pub mod IsotropicRounding
 pub mod KinematicRounding
 pub mod AsymmetricRounding
+pub mod Curves

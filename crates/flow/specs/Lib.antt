@@ -1,4 +1,5 @@
 pub mod Side
+pub mod CurveSide
 pub mod Conditions
 pub mod Solution
 pub mod Rounded
