@@ -6,3 +6,4 @@ pub mod Isotropic
 pub mod Asymmetric
 pub mod Centre
 pub mod Kinematic
+pub mod Unused

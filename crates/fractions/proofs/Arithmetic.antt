@@ -158,3 +158,18 @@ within-neg {k} {x} {y} h =
     (λ d ((_, _, i), ((_, _, j), _)).
     let near = is-within k i j .0 h in
     is-within k (is-neg i) (is-neg j) .1 (record { above = omega arith; below = omega arith }))
+
+pub within-none : {x y : Frac} → x ≈F y → Within 0 x y
+within-none {x} {y} e =
+    at-common (x ∷ [])
+    (λ d ((_, _, i), _). is-within 0 i (is-same e i) .1 (record { above = omega arith; below = omega arith }))
+
+-- The same whole number less each of the two.
+pub within-rest : {k : ℕ} (w z : ℤ) {x : Frac} → Within k (whole z) x → Within k (whole (w -ℤ z)) (whole w -F x)
+within-rest {k} w z {x} h =
+    within-same
+    (at-common (whole w ∷ whole z ∷ x ∷ [])
+    (λ d ((_, _, l), ((_, _, i), ((_, _, j), _))).
+    let near = is-within k i j .0 h in
+    is-within k (is-sub l i) (is-sub l j) .1 (record { above = omega arith; below = omega arith })))
+    (whole-sub w z) (≈F-refl (whole w -F x))
