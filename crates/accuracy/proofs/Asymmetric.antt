@@ -1,21 +1,20 @@
 -- Law 3: a pair keeps the stored rod within k of the bar, where k counts the pairs that yielded. A trial that is negative is one that is not,
 -- with the two sides exchanged.
-use mathlib.Core.Bool.{true, false}
-use mathlib.Core.Path.{_≡_}
 use mathlib.Core.List.{[], _∷_}
 use mathlib.Core.Logic.{_⊎_, inl, inr, ⊎-elim}
 use Prim.Native.Nat.{ℕ, suc, _+_}
 use native.Mathlib.Nat.{add-zero}
 use native.Mathlib.Omega.{arith}
 use lib.IntN.{ℤ, pos, negsuc, negℤ, _+ℤ_}
-use Rattle.fractions.specs.Fraction.{Frac, _≤F_, _<F_, _≈F_, leF, whole, _+F_, negF, Within}
+use Rattle.fractions.specs.Fraction.{Frac, _≤F_, _<F_, _≈F_, whole, _+F_, negF, Within}
 use Rattle.fractions.proofs.Common.{is-same, is-whole, is-whole-one, is-add, is-neg, is-le, is-lt, at-common}
-use Rattle.fractions.proofs.Comparison.{≤F-of-<F, ≤F-of-≈F, ≤F-trans, <F-≤F-trans, ≤F-or-<F, ≈F-refl, ≈F-sym, leF-cases}
-use Rattle.fractions.proofs.Arithmetic.{is-within, neg-same, whole-neg, within-sym, within-same, within-weaken, within-add, within-neg}
+use Rattle.fractions.proofs.Comparison.{≤F-of-<F, ≤F-of-≈F, ≤F-trans, <F-≤F-trans, ≤F-or-<F, ≈F-refl, ≈F-sym, leF-true, leF-false}
+use Rattle.fractions.proofs.Cases.{cond-cases}
+use Rattle.fractions.proofs.Arithmetic.{is-within, whole-neg, within-sym, within-same, within-weaken, within-add, within-neg}
 use Rattle.flow.specs.Side.{Side, Hardens, Flattens}
 use Rattle.flow.specs.Solution.{AsymmetricMoved, flowed, asymmetric}
 use Rattle.flow.specs.Rounded.{LimitRounded}
-use Rattle.flow.specs.Stored.{SideStored, sideStored, AsymmetricStored, asymmetricStored}
+use Rattle.flow.specs.Stored.{SideStored, sideStored, asymmetricStored}
 use Rattle.flow.proofs.OneSide.{limit-positive}
 use Rattle.flow.proofs.Asymmetric.{negated-twice}
 use Rattle.accuracy.specs.Close.{flow-count, LimitClose, AsymmetricClose}
@@ -57,41 +56,48 @@ record ExactDown (tension compression : Side) (trial A B stress A′ B′ : Frac
   stress-negated : stress-down ≈F negF stress
   up : ExactUp compression tension trial-down B A stress-down B′ A′
 
+abbrev Exact : (tension compression : Side) (trial A B stress A′ B′ : Frac) → Type 0
+Exact tension compression trial A B stress A′ B′ = ExactUp tension compression trial A B stress A′ B′ ⊎ ExactDown tension compression trial A B stress A′ B′
+
 positive-side : {x y : Frac} → whole (pos 0) <F x → x <F y → whole (pos 0) ≤F y
 positive-side h l = ≤F-of-<F (<F-≤F-trans h (≤F-of-<F l))
 
 exact-cases : {tension compression : Side} → Hardens tension → Hardens compression → (trial A B : Frac) → tension .yield ≤F A → compression .yield ≤F B
-    → let m = asymmetric tension compression trial A B in
-    ExactUp tension compression trial A B (m .stress) (m .tension) (m .compression) ⊎ ExactDown tension compression trial A B (m .stress) (m .tension) (m .compression)
+    → let m = asymmetric tension compression trial A B in Exact tension compression trial A B (m .stress) (m .tension) (m .compression)
 unfolding asymmetric
 exact-cases {tension} {compression} curve curve′ trial A B p p′ =
-    go (leF-cases trial (tension .limit A)) (leF-cases (negF trial) (compression .limit B)) (≤F-or-<F (whole (pos 0)) trial)
+    cond-cases case _ _ _
+    (λ e. cond-cases case _ _ _
+    (λ e′. ⊎-elim (λ s. inl (up-rests curve curve′ p p′ s (leF-true _ _ e))) (λ s. inr (rests-down s (leF-true _ _ e′))) (≤F-or-<F (whole (pos 0)) trial))
+    (λ e′. inr (flows-down (leF-false _ _ e′))))
+    (λ e. let h = leF-false _ _ e in inl (up-flows curve curve′ p p′ (positive-side (limit-positive curve p) h) h))
   where
-    go : ((trial ≤F tension .limit A) × (leF trial (tension .limit A) ≡ true)) ⊎ ((tension .limit A <F trial) × (leF trial (tension .limit A) ≡ false))
-        → ((negF trial ≤F compression .limit B) × (leF (negF trial) (compression .limit B) ≡ true)) ⊎ ((compression .limit B <F negF trial) × (leF (negF trial) (compression .limit B) ≡ false))
-        → (whole (pos 0) ≤F trial) ⊎ (trial <F whole (pos 0))
-        → let m = asymmetric tension compression trial A B in
-        ExactUp tension compression trial A B (m .stress) (m .tension) (m .compression) ⊎ ExactDown tension compression trial A B (m .stress) (m .tension) (m .compression)
-    go (inr (h, e)) c s = rw e (inl (up-flows curve curve′ p p′ (positive-side (limit-positive curve p) h) h))
-    go (inl (h, e)) (inr (h′, e′)) s =
-        rw (e, e′)
-        (inr (record {
-          trial-down = negF trial;
-          stress-down = compression .limit (flowed compression (negF trial) B);
-          trial-negated = ≈F-refl (negF trial);
-          stress-negated = negated-twice (compression .limit (flowed compression (negF trial) B));
-          up = up-flows curve′ curve p′ p (positive-side (limit-positive curve′ p′) h′) h′;
-        }))
-    go (inl (h, e)) (inl (h′, e′)) (inl s) = rw (e, e′) (inl (up-rests curve curve′ p p′ s h))
-    go (inl (h, e)) (inl (h′, e′)) (inr s) =
-        rw (e, e′)
-        (inr (record {
+    case : AsymmetricMoved → Type 0
+    case m = Exact tension compression trial A B (m .stress) (m .tension) (m .compression)
+
+    rests-down : trial <F whole (pos 0) → negF trial ≤F compression .limit B → ExactDown tension compression trial A B trial A B
+    rests-down s h =
+        record {
           trial-down = negF trial;
           stress-down = negF trial;
           trial-negated = ≈F-refl (negF trial);
           stress-negated = ≈F-refl (negF trial);
-          up = up-rests curve′ curve p′ p (at-common (trial ∷ []) (λ d ((_, _, i), _). is-le (is-whole (pos 0) (i .some)) (is-neg i) .1 (omega (arith, is-lt i (is-whole (pos 0) (i .some)) .0 s)))) h′;
-        }))
+          up = up-rests curve′ curve p′ p up h;
+        }
+      where
+        up : whole (pos 0) ≤F negF trial
+        up = at-common (trial ∷ []) (λ d ((_, _, i), _). let zero = is-whole (pos 0) (i .some) in is-le zero (is-neg i) .1 (omega (arith, is-lt i zero .0 s)))
+
+    flows-down : compression .limit B <F negF trial
+        → let B′ = flowed compression (negF trial) B in ExactDown tension compression trial A B (negF (compression .limit B′)) A B′
+    flows-down h =
+        record {
+          trial-down = negF trial;
+          stress-down = compression .limit (flowed compression (negF trial) B);
+          trial-negated = ≈F-refl (negF trial);
+          stress-negated = negated-twice (compression .limit (flowed compression (negF trial) B));
+          up = up-flows curve′ curve p′ p (positive-side (limit-positive curve′ p′) h) h;
+        }
 
 -- A side that the other one's trial leaves as it was.
 limit-kept : {side : Side} → Hardens side → {k : ℕ} (g : ℕ) {A : ℕ} {exact exact′ : Frac} → exact′ ≈F exact → LimitClose side k A exact → LimitClose side (k + g) A exact′
@@ -167,7 +173,7 @@ module _ {tension compression : Side} (curve : Hardens tension) (curve′ : Hard
 module _ {tension compression : Side} (curve : Hardens tension) (curve′ : Hardens compression) (flat : Flattens tension) (flat′ : Flattens compression)
     {limitT limitC : ℕ → ℕ} (floorT : (a : ℕ) → LimitRounded tension a (limitT a)) (floorC : (a : ℕ) → LimitRounded compression a (limitC a))
     {k A B : ℕ} {trial exact-A exact-B stress A′ B′ : Frac} (c : LimitClose tension k A exact-A) (c′ : LimitClose compression k B exact-B)
-    (e : ExactUp tension compression trial exact-A exact-B stress A′ B′ ⊎ ExactDown tension compression trial exact-A exact-B stress A′ B′) where
+    (e : Exact tension compression trial exact-A exact-B stress A′ B′) where
   up-close : (m : ℕ) → Within k (whole (pos m)) trial → UpClose tension compression k (sideStored limitT m A) B stress A′ B′
   up-close m near = ⊎-elim (both-up curve curve′ flat floorT m near c c′) (up-and-down curve curve′ flat floorT m near c c′) e
 
@@ -201,7 +207,7 @@ asymmetric-stays-close {tension} {compression} curve curve′ flat flat′ {limi
     m : AsymmetricMoved
     m = asymmetric tension compression trial exact-A exact-B
 
-    e : ExactUp tension compression trial exact-A exact-B (m .stress) (m .tension) (m .compression) ⊎ ExactDown tension compression trial exact-A exact-B (m .stress) (m .tension) (m .compression)
+    e : Exact tension compression trial exact-A exact-B (m .stress) (m .tension) (m .compression)
     e = exact-cases curve curve′ trial exact-A exact-B (c .tension-close .exact-past) (c .compression-close .exact-past)
 
     go : (s : ℤ) → Within k (whole s) trial

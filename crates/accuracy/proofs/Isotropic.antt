@@ -1,23 +1,21 @@
 -- Laws 0 and 1: a pair keeps the stored rod within k of the bar, where k counts the pairs that yielded.
-use mathlib.Core.Bool.{true, false}
-use mathlib.Core.Path.{_≡_}
-use mathlib.Core.List.{[], _∷_}
-use mathlib.Core.Logic.{_⊎_, inl, inr, ⊎-elim}
+use mathlib.Core.Logic.{inl, inr, ⊎-elim}
 use Prim.Native.Nat.{ℕ, _+_}
 use native.Mathlib.Nat.{add-zero}
 use native.Mathlib.Omega.{arith}
 use lib.IntN.{ℤ, pos, natAbs, _+ℤ_}
-use Rattle.fractions.specs.Fraction.{Frac, _≤F_, _<F_, _≈F_, leF, whole, _+F_, absF, signed, signedF, Within}
+use Rattle.fractions.specs.Fraction.{Frac, _≤F_, _≈F_, whole, _+F_, absF, signed, signedF, Within}
 use Rattle.fractions.proofs.Common.{is-whole-one, is-le}
-use Rattle.fractions.proofs.Comparison.{≤F-of-<F, ≤F-trans, ≈F-refl, ≈F-sym, leF-cases}
-use Rattle.fractions.proofs.Arithmetic.{whole-abs, whole-signed, within-sym, within-same, within-weaken, within-add}
+use Rattle.fractions.proofs.Comparison.{≤F-of-<F, ≈F-refl, ≈F-sym, leF-true, leF-false}
+use Rattle.fractions.proofs.Cases.{cond-cases}
+use Rattle.fractions.proofs.Arithmetic.{whole-abs, whole-signed, within-sym, within-same, within-add}
 use Rattle.fractions.proofs.Signs.{signed-abs, abs-not-negative}
 use Rattle.flow.specs.Side.{Side, Hardens, Flattens}
 use Rattle.flow.specs.Solution.{Moved, flowed, isotropic}
 use Rattle.flow.specs.Rounded.{LimitRounded}
-use Rattle.flow.specs.Stored.{SideStored, sideStored, IsotropicStored, isotropicStored}
+use Rattle.flow.specs.Stored.{SideStored, sideStored, isotropicStored}
 use Rattle.flow.proofs.OneSide.{limit-positive}
-use Rattle.accuracy.specs.Close.{flow-count, LimitClose, IsotropicClose}
+use Rattle.accuracy.specs.Close.{flow-count, IsotropicClose}
 use Rattle.accuracy.proofs.Move.{Move}
 use Rattle.accuracy.proofs.Magnitudes.{same-signs, limits-apart, stays-past, no-more-than-trial, trial-small, exact-trial-small, magnitudes-small}
 use Rattle.accuracy.proofs.Moving.{exact-flows, stored-move}
@@ -33,24 +31,23 @@ record ExactMove (side : Side) (trial a stress b : Frac) : Type 0 where
 exact-move : {side : Side} → Hardens side → (trial a : Frac) → side .yield ≤F a
     → ExactMove side trial a (isotropic side trial a .stress) (isotropic side trial a .variable)
 unfolding isotropic
-exact-move {side} curve trial a p = go (leF-cases (absF trial) (side .limit a))
-  where
-    go : ((absF trial ≤F side .limit a) × (leF (absF trial) (side .limit a) ≡ true)) ⊎ ((side .limit a <F absF trial) × (leF (absF trial) (side .limit a) ≡ false))
-        → ExactMove side trial a (isotropic side trial a .stress) (isotropic side trial a .variable)
-    go (inl (h, e)) =
-        rw e record {
-          magnitude = absF trial;
-          not-negative = abs-not-negative trial;
-          move = inl (record { within = h; magnitude = ≈F-refl (absF trial); abscissa = ≈F-refl a });
-          signed = ≈F-sym (signed-abs trial);
-        }
-    go (inr (h, e)) =
-        rw e record {
-          magnitude = side .limit (flowed side (absF trial) a);
-          not-negative = ≤F-of-<F (limit-positive curve (stays-past curve p (inr (exact-flows curve p h))));
-          move = inr (exact-flows curve p h);
-          signed = ≈F-refl (signedF trial (side .limit (flowed side (absF trial) a)));
-        }
+exact-move {side} curve trial a p =
+    cond-cases (λ (m : Moved). ExactMove side trial a (m .stress) (m .variable)) _ _ _
+    (λ e.
+    record {
+      magnitude = absF trial;
+      not-negative = abs-not-negative trial;
+      move = inl (record { within = leF-true _ _ e; magnitude = ≈F-refl (absF trial); abscissa = ≈F-refl a });
+      signed = ≈F-sym (signed-abs trial);
+    })
+    (λ e.
+    let flows = exact-flows curve p (leF-false _ _ e) in
+    record {
+      magnitude = side .limit (flowed side (absF trial) a);
+      not-negative = ≤F-of-<F (limit-positive curve (stays-past curve p (inr flows)));
+      move = inr flows;
+      signed = ≈F-refl (signedF trial (side .limit (flowed side (absF trial) a)));
+    })
 
 module _ {side : Side} (curve : Hardens side) (flat : Flattens side) {limit : ℕ → ℕ} (floor : (a : ℕ) → LimitRounded side a (limit a)) where
   pub isotropic-stays-close : {k : ℕ} {stress : ℤ} {A : ℕ} {exact-stress exact-A : Frac} → IsotropicClose side k stress A exact-stress exact-A → (w : ℤ)

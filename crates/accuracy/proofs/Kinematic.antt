@@ -2,19 +2,19 @@
 use mathlib.Core.Bool.{Bool, true, false}
 use mathlib.Core.Path.{_≡_, refl, sym, _∙_, ap}
 use mathlib.Core.List.{[], _∷_}
-use mathlib.Core.Logic.{_⊎_, inl, inr, ⊎-elim}
+use mathlib.Core.Logic.{⊎-elim}
 use Prim.Native.Nat.{ℕ, suc, _+_, _-_, _*_, _/_, _≤_, _<_}
-use native.Mathlib.Nat.{add-zero, le-of-lt}
-use native.Mathlib.Decide.{decLe}
 use native.Mathlib.Omega.{arith}
-use borrow.Author.Tests.{le-leb, lt-leb}
+use borrow.Author.Tests.{leb-true, leb-false}
+use lib.Dec.{leb}
 use lib.IntN.{ℤ, pos, negsuc, negℤ, natAbs, _+ℤ_, _-ℤ_, negℤ-+ℤ, negℤ-negℤ}
-use Rattle.fractions.specs.Fraction.{Frac, _≤F_, _<F_, _≈F_, leF, whole, _+F_, negF, _-F_, absF, signed, signedF, timesF, Within}
+use Rattle.fractions.specs.Fraction.{Frac, _≤F_, _<F_, _≈F_, whole, _+F_, negF, _-F_, absF, signed, signedF, timesF, Within}
 use Rattle.fractions.specs.Rounding.{Floor}
 use Rattle.fractions.proofs.Parts.{up, dn, abs-parts, add-parts, sub-parts-ℤ}
 use Rattle.fractions.proofs.Common.{is-same, is-whole, is-whole-one, is-add, is-neg, is-sub, is-abs, is-le, is-lt, is-eq, at-common}
-use Rattle.fractions.proofs.Comparison.{≤F-refl, ≤F-of-<F, ≤F-of-≈F, ≤F-trans, ≈F-refl, ≈F-sym, ≈F-trans, leF-cases}
-use Rattle.fractions.proofs.Arithmetic.{add-same, neg-same, sub-same, times-same, times-not-negative, add-mono, whole-add, whole-sub, whole-neg, within-sym, within-same, within-weaken, within-add, within-neg}
+use Rattle.fractions.proofs.Comparison.{≤F-refl, ≤F-of-≈F, ≤F-trans, ≈F-refl, ≈F-sym, ≈F-trans, leF-true, leF-false}
+use Rattle.fractions.proofs.Cases.{cond-cases}
+use Rattle.fractions.proofs.Arithmetic.{add-same, sub-same, times-same, times-not-negative, add-mono, whole-add, whole-neg, within-sym, within-same, within-weaken, within-add, within-neg}
 use Rattle.fractions.proofs.Signs.{sign-cases}
 use Rattle.fractions.proofs.Rounded.{is-floor, floor-same, floor-times}
 use Rattle.flow.specs.Solution.{Moved, kinematic}
@@ -110,7 +110,10 @@ module _ {E t : ℕ} {h : 0 < E} {y : Frac} where
 
   exact-centre : (s x : Frac) → let m = kinematic E t h y s x in CentreMove E t h 0 y s x (m .stress) (m .variable)
   unfolding kinematic
-  exact-centre s x = go (leF-cases (absF (s -F x)) y) (sign-cases (s -F x))
+  exact-centre s x =
+      cond-cases (λ (m : Moved). CentreMove E t h 0 y s x (m .stress) (m .variable)) _ _ _
+      (λ e. inside (exact-inside (leF-true _ _ e)) (≈F-refl s) (≈F-refl x))
+      (λ e. ⊎-elim (λ (u, sign). beyond true (upper (leF-false _ _ e) u sign)) (λ (u, sign). beyond false (lower (leF-false _ _ e) u sign)) (sign-cases v))
     where
       v : Frac
       v = s -F x
@@ -118,32 +121,30 @@ module _ {E t : ℕ} {h : 0 < E} {y : Frac} where
       share : Frac
       share = timesF (absF v -F y) t E h
 
-      go : ((absF v ≤F y) × (leF (absF v) y ≡ true)) ⊎ ((y <F absF v) × (leF (absF v) y ≡ false))
-          → ((whole (pos 0) ≤F v) × ((z : Frac) → signedF v z ≈F z)) ⊎ ((v <F whole (pos 0)) × ((z : Frac) → signedF v z ≈F negF z))
-          → let m = kinematic E t h y s x in CentreMove E t h 0 y s x (m .stress) (m .variable)
-      go (inl (l, e)) c = rw e (inside (exact-inside l) (≈F-refl s) (≈F-refl x))
-      go (inr (l, e)) (inl (u, sign)) =
-          rw e
-          (beyond true
-          (at-common (y ∷ s ∷ x ∷ [])
+      x′ : Frac
+      x′ = x +F signedF v share
+
+      upper : y <F absF v → whole (pos 0) ≤F v → ((z : Frac) → signedF v z ≈F z) → Beyond E t h 0 y s x (x′ +F signedF v y) x′
+      upper l u sign =
+          at-common (y ∷ s ∷ x ∷ [])
           (λ d ((_, _, r), ((_, _, i), ((_, _, j), _))).
           let past = is-lt r (is-abs (is-sub i j)) .0 l in
           let side = is-le (is-whole (pos 0) (r .some)) (is-sub i j) .0 u in
           let size : absF v ≈F (s -F x) = is-eq (is-abs (is-sub i j)) (is-sub i j) .1 (omega arith) in
           exact-beyond (is-lt (is-add j r) i .1 (omega arith))
-          (add-same (≈F-refl x) (≈F-trans (sign share) (times-same t E h (sub-same size (≈F-refl y)))))
-          (add-same (≈F-refl (x +F signedF v share)) (sign y)))))
-      go (inr (l, e)) (inr (u, sign)) =
-          rw e
-          (beyond false
-          (at-common (y ∷ s ∷ x ∷ [])
+          (add-same (≈F-refl x) (≈F-trans (sign share) (times-same t E h (sub-same size (≈F-refl y))))) (add-same (≈F-refl x′) (sign y)))
+
+      lower : y <F absF v → v <F whole (pos 0) → ((z : Frac) → signedF v z ≈F negF z)
+          → Beyond E t h 0 y (negF s) (negF x) (negF (x′ +F signedF v y)) (negF x′)
+      lower l u sign =
+          at-common (y ∷ s ∷ x ∷ [])
           (λ d ((_, _, r), ((_, _, i), ((_, _, j), _))).
           let past = is-lt r (is-abs (is-sub i j)) .0 l in
           let side = is-lt (is-sub i j) (is-whole (pos 0) (r .some)) .0 u in
           let size : absF v ≈F (negF s -F negF x) = is-eq (is-abs (is-sub i j)) (is-sub (is-neg i) (is-neg j)) .1 (omega arith) in
           exact-beyond (is-lt (is-add (is-neg j) r) (is-neg i) .1 (omega arith))
           (≈F-trans (neg-sum x share (sign share)) (add-same (≈F-refl (negF x)) (times-same t E h (sub-same size (≈F-refl y)))))
-          (neg-sum (x +F signedF v share) y (sign y)))))
+          (neg-sum x′ y (sign y)))
 
 -- ---- The stored rod
 
@@ -191,18 +192,19 @@ module _ {E t : ℕ} {h : 0 < E} (y : ℕ) where
   stored-centre : (s X : ℤ) → let m = kinematicStored E t y s X in
       CentreMove E t h (flow-count (m .yielded)) (whole (pos y)) (whole s) (whole X) (whole (m .stress)) (whole (m .centre))
   unfolding kinematicStored
-  stored-centre s X = go (decLe (natAbs (s -ℤ X)) y)
+  stored-centre s X =
+      cond-cases (λ (m : KinematicStored). CentreMove E t h (flow-count (m .yielded)) (whole (pos y)) (whole s) (whole X) (whole (m .stress)) (whole (m .centre)))
+      (leb (natAbs (s -ℤ X)) y) _ _
+      (λ l. inside (stored-inside y s X (leb-true (natAbs (s -ℤ X)) y l)) (≈F-refl (whole s)) (≈F-refl (whole X)))
+      (λ l. past (s -ℤ X) refl (leb-false (natAbs (s -ℤ X)) y l))
     where
       past : (v : ℤ) → s -ℤ X ≡ v → y < natAbs v
           → let X′ = X +ℤ signed v (pos ((natAbs v - y) * t / E)) in
           CentreMove E t h 1 (whole (pos y)) (whole s) (whole X) (whole (X′ +ℤ signed v (pos y))) (whole X′)
       past (pos n) e l = beyond true (stored-beyond s X n e l)
-      past (negsuc n) e l = beyond false (simp (whole-neg, negℤ-+ℤ, negℤ-negℤ) (stored-beyond (negℤ s) (negℤ X) (suc n) (sym (negℤ-+ℤ s (negℤ X)) ∙ ap negℤ e) l))
-
-      go : Dec (natAbs (s -ℤ X) ≤ y) → let m = kinematicStored E t y s X in
-          CentreMove E t h (flow-count (m .yielded)) (whole (pos y)) (whole s) (whole X) (whole (m .stress)) (whole (m .centre))
-      go (yes l) = rw (le-leb (natAbs (s -ℤ X)) y l) (inside (stored-inside y s X l) (≈F-refl (whole s)) (≈F-refl (whole X)))
-      go (no l) = rw (lt-leb (natAbs (s -ℤ X)) y (omega arith)) (past (s -ℤ X) refl (omega arith))
+      past (negsuc n) e l =
+          let negated = sym (negℤ-+ℤ s (negℤ X)) ∙ ap negℤ e in
+          beyond false (simp (whole-neg, negℤ-+ℤ, negℤ-negℤ) (stored-beyond (negℤ s) (negℤ X) (suc n) negated l))
 
 pub kinematic-stays-close : {E t : ℕ} (h : 0 < E) → t ≤ E → (yield : ℕ) {k : ℕ} {stress X : ℤ} {exact-stress exact-X : Frac}
     → KinematicClose k stress X exact-stress exact-X → (w : ℤ)

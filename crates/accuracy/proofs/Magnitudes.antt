@@ -2,19 +2,19 @@
 -- were within k are within k + g.
 use mathlib.Core.Path.{_≡_}
 use mathlib.Core.List.{[], _∷_}
-use mathlib.Core.Logic.{_⊎_, inl, inr, ⊎-elim}
+use mathlib.Core.Logic.{inl, inr, ⊎-elim}
 use Prim.Native.Nat.{ℕ, _+_, _*_, _≤_}
 use native.Mathlib.Nat.{add-zero, le-dest}
 use native.Mathlib.Omega.{arith}
 use lib.IntN.{pos}
-use Rattle.fractions.specs.Fraction.{Frac, _≤F_, _<F_, _≈F_, whole, _+F_, _-F_, _*F_, Within}
-use Rattle.fractions.proofs.Common.{Is, is-shift, is-whole, is-add, is-sub, is-mul, is-le, is-lt, is-eq, at-common}
+use Rattle.fractions.specs.Fraction.{Frac, _≤F_, _<F_, whole, _+F_, _-F_, Within}
+use Rattle.fractions.proofs.Common.{Is, is-shift, is-whole, is-add, is-sub, is-mul, is-le, is-lt, at-common}
 use Rattle.fractions.proofs.Comparison.{≤F-of-<F, ≤F-of-≈F, ≤F-trans, ≤F-or-<F, ≈F-sym, ≈F-refl}
 use Rattle.fractions.proofs.Arithmetic.{is-within, within-sym, within-weaken, within-same}
 use Rattle.fractions.proofs.Secant.{secant}
-use Rattle.flow.specs.Side.{Side, accumulated, Hardens, Flattens}
+use Rattle.flow.specs.Side.{Side, Hardens, Flattens}
 use Rattle.flow.proofs.OneSide.{accumulated-mono, limit-positive}
-use Rattle.accuracy.proofs.Move.{Rests, Flows, Move, moves-on, limit-rises, limit-at-most}
+use Rattle.accuracy.proofs.Move.{Flows, Move, moves-on, limit-rises, limit-at-most}
 
 -- ---- One of the two flows, the other stays inside its limit
 

@@ -1,14 +1,14 @@
 -- One side of a curve under one pair, on magnitudes, rounded or not: it rests or flows. `g` is what rounding may add: 1 for the stored
 -- rod, 0 for the bar. What both have in common carries the bound.
 use mathlib.Core.List.{[], _∷_}
-use mathlib.Core.Logic.{_⊎_, inl, inr, ⊎-elim}
-use Prim.Native.Nat.{ℕ, _+_, _*_}
+use mathlib.Core.Logic.{_⊎_}
+use Prim.Native.Nat.{ℕ}
 use native.Mathlib.Omega.{arith}
 use lib.IntN.{pos}
-use Rattle.fractions.specs.Fraction.{Frac, _≤F_, _<F_, _≈F_, whole, _+F_, _-F_, Within}
-use Rattle.fractions.proofs.Common.{is-whole, is-add, is-sub, is-le, is-lt, is-eq, at-common}
+use Rattle.fractions.specs.Fraction.{Frac, _≤F_, _<F_, _≈F_, whole, _+F_}
+use Rattle.fractions.proofs.Common.{is-whole, is-add, is-sub, is-le, is-lt, at-common}
 use Rattle.fractions.proofs.Comparison.{≤F-of-<F}
-use Rattle.flow.specs.Side.{Side, accumulated, Hardens}
+use Rattle.flow.specs.Side.{Side, Hardens}
 use Rattle.flow.proofs.OneSide.{accumulated-mono}
 
 -- From the trial magnitude x and the abscissa a to the magnitude y and the abscissa b.

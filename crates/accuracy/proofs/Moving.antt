@@ -1,25 +1,25 @@
 -- What the stored rod and the bar without rounding do on one side are such moves.
-use mathlib.Core.Bool.{Bool, true, false, cond}
 use mathlib.Core.Path.{_≡_, ap}
 use mathlib.Core.List.{[], _∷_}
 use mathlib.Core.Logic.{inl, inr}
-use Prim.Native.Nat.{ℕ, _+_, _-_, _*_, _≤_, _<_}
-use native.Mathlib.Nat.{le-dest, lt-of-mul-lt-mul-left}
-use native.Mathlib.Decide.{decLe}
+use Prim.Native.Nat.{ℕ, _+_, _-_, _*_, _<_}
+use native.Mathlib.Nat.{lt-of-mul-lt-mul-left}
 use native.Mathlib.Omega.{arith}
-use borrow.Author.Tests.{le-leb, lt-leb}
+use borrow.Author.Tests.{leb-true, leb-false}
+use lib.Dec.{leb}
 use lib.IntN.{pos}
-use Rattle.fractions.specs.Fraction.{Frac, _≤F_, _<F_, _≈F_, whole, _+F_, _-F_}
-use Rattle.fractions.proofs.Common.{Is, is-whole, is-whole-one, is-add, is-sub, is-le, is-lt, is-eq, at-common}
-use Rattle.fractions.proofs.Comparison.{≤F-refl, ≤F-of-<F, ≤F-trans, ≈F-refl}
+use Rattle.fractions.specs.Fraction.{Frac, _≤F_, _<F_, whole}
+use Rattle.fractions.proofs.Common.{Is, is-whole, is-whole-one, is-add, is-sub, is-le, is-lt, at-common}
+use Rattle.fractions.proofs.Comparison.{≤F-refl, ≤F-trans, ≈F-refl}
+use Rattle.fractions.proofs.Cases.{cond-cases}
 use Rattle.fractions.proofs.Rounded.{is-floor, floor-passed}
-use Rattle.flow.specs.Side.{Side, accumulated, Hardens}
+use Rattle.flow.specs.Side.{Side, Hardens}
 use Rattle.flow.specs.Solution.{flowed}
 use Rattle.flow.specs.Rounded.{LimitRounded}
 use Rattle.flow.specs.Stored.{SideStored, sideStored}
 use Rattle.flow.proofs.OneSide.{accumulated-mono}
 use Rattle.accuracy.specs.Close.{flow-count}
-use Rattle.accuracy.proofs.Move.{Rests, Flows, Move}
+use Rattle.accuracy.proofs.Move.{Flows, Move}
 
 -- The bar past its limit.
 pub exact-flows : {side : Side} → Hardens side → {x a : Frac} → side .yield ≤F a → side .limit a <F x
@@ -67,17 +67,12 @@ module _ {side : Side} (curve : Hardens side) {limit : ℕ → ℕ} (floor : (a 
   pub stored-move : let stored = sideStored limit m A in
       Move side (flow-count (stored .yielded)) (whole (pos m)) (whole (pos A)) (whole (pos (stored .magnitude))) (whole (pos (stored .abscissa)))
   unfolding sideStored
-  stored-move = go (decLe m (limit A))
-    where
-      go : Dec (m ≤ limit A)
-          → let stored = sideStored limit m A in
-          Move side (flow-count (stored .yielded)) (whole (pos m)) (whole (pos A)) (whole (pos (stored .magnitude))) (whole (pos (stored .abscissa)))
-      go (yes l) =
-          rw (le-leb m (limit A) l)
-          (inl (record {
-            within = ≤F-trans (is-le (is-whole-one (pos m)) (is-whole-one (pos (limit A))) .1 (omega arith)) (floor A .floor .below);
-            magnitude = ≈F-refl (whole (pos m));
-            abscissa = ≈F-refl (whole (pos A));
-          }))
-      go (no l) =
-          rw (lt-leb m (limit A) (omega arith)) (inr (stored-flows (m - limit A) (omega arith) (omega arith)))
+  stored-move =
+      cond-cases (λ (r : SideStored). Move side (flow-count (r .yielded)) (whole (pos m)) (whole (pos A)) (whole (pos (r .magnitude))) (whole (pos (r .abscissa))))
+      (leb m (limit A)) _ _
+      (λ t. inl (record {
+        within = ≤F-trans (is-le (is-whole-one (pos m)) (is-whole-one (pos (limit A))) .1 (omega (arith, leb-true m (limit A) t))) (floor A .floor .below);
+        magnitude = ≈F-refl (whole (pos m));
+        abscissa = ≈F-refl (whole (pos A));
+      }))
+      (λ t. let passed = leb-false m (limit A) t in inr (stored-flows (m - limit A) (omega arith) (omega arith)))

@@ -2,13 +2,13 @@
 -- together; and back. (From "within k" alone neither can be left out.)
 use mathlib.Core.List.{[], _∷_}
 use mathlib.Core.Logic.{_⊎_, inl, inr}
-use Prim.Native.Nat.{ℕ, _+_, _*_, _≤_, _<_}
+use Prim.Native.Nat.{ℕ, _≤_, _<_}
 use native.Mathlib.Decide.{decLe}
 use native.Mathlib.Omega.{arith}
 use lib.IntN.{pos}
 use Rattle.fractions.specs.Fraction.{Frac, _≤F_, whole, _+F_, absF, signedF, Within}
 use Rattle.fractions.proofs.Common.{Is, is-whole, is-add, is-abs-up, is-abs-dn, is-signed-up, is-signed-dn, is-le, at-common}
-use Rattle.fractions.proofs.Arithmetic.{Near, is-within}
+use Rattle.fractions.proofs.Arithmetic.{is-within}
 
 pub record Alike (x y : Frac) : Type 0 where
   pub magnitudes : {k : ℕ} → Within k x y → Within k (absF x) (absF y)

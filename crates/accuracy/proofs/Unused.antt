@@ -1,7 +1,7 @@
 -- An unused rod and the unused bar are the same: within nought of one another.
 use Prim.Native.Nat.{ℕ}
 use lib.IntN.{ℤ, pos}
-use Rattle.fractions.specs.Fraction.{Frac, _≤F_, whole}
+use Rattle.fractions.specs.Fraction.{_≤F_, whole}
 use Rattle.fractions.proofs.Comparison.{≈F-refl}
 use Rattle.fractions.proofs.Arithmetic.{within-none}
 use Rattle.flow.specs.Side.{Side}

@@ -1,18 +1,17 @@
 -- Law 3: the conditions have a solution and no other, it is the step of the bar without rounding, a pair moves at most one side, and a side's
 -- plastic strain grows exactly when the trial passes its limit. Compression is tension with the two sides exchanged (`mirrored`).
-use mathlib.Core.Bool.{true, false}
-use mathlib.Core.Path.{_≡_}
 use mathlib.Core.List.{[], _∷_}
-use mathlib.Core.Logic.{_⊎_, inl, inr, _↔_}
+use mathlib.Core.Logic.{_↔_}
 use native.Mathlib.Omega.{arith}
 use lib.IntN.{pos}
-use Rattle.fractions.specs.Fraction.{Frac, _≤F_, _<F_, _≈F_, leF, _+F_, negF, _-F_}
+use Rattle.fractions.specs.Fraction.{Frac, _≤F_, _<F_, _≈F_, _+F_, negF, _-F_}
 use Rattle.fractions.proofs.Common.{is-own, is-whole, is-add, is-neg, is-sub, is-le, is-lt, is-eq, at-common}
-use Rattle.fractions.proofs.Comparison.{≤F-antisym, ≤F-trans, <F-not-≤F, ≤F-<F-trans, ≤F-of-<F, ≤F-of-≈F, ≤F-of-not-<F, ≈F-sym, ≈F-trans, ≈F-refl, leF-cases}
+use Rattle.fractions.proofs.Comparison.{≤F-antisym, ≤F-trans, <F-not-≤F, ≤F-<F-trans, ≤F-of-<F, ≤F-of-≈F, ≤F-of-not-<F, ≈F-sym, ≈F-trans, ≈F-refl, leF-true, leF-false}
+use Rattle.fractions.proofs.Cases.{cond-cases}
 use Rattle.fractions.proofs.Arithmetic.{sub-same}
 use Rattle.flow.specs.Side.{Side, accumulated, Hardens}
 use Rattle.flow.specs.Conditions.{OnSide, Asymmetric}
-use Rattle.flow.specs.Solution.{flowed, asymmetric}
+use Rattle.flow.specs.Solution.{AsymmetricMoved, flowed, asymmetric}
 use Rattle.flow.proofs.OneSide.{more-strain-more-stress, accumulated-injective, grows-past-limit, limit-positive, rests, flows, flow-balances, on-side-same}
 
 pub negated-twice : (x : Frac) → x ≈F negF (negF x)
@@ -193,12 +192,12 @@ module _ {tension compression : Side} (curve : Hardens tension) (curve′ : Hard
       → let m = asymmetric tension compression trial A B in
       Asymmetric tension compression trial A B (m .stress) (m .tension) (m .compression)
   unfolding asymmetric
-  asymmetric-solves trial A B p p′ = go (leF-cases trial (tension .limit A)) (leF-cases (negF trial) (compression .limit B))
+  asymmetric-solves trial A B p p′ =
+      cond-cases solved _ _ _
+      (λ e. cond-cases solved _ _ _
+      (λ e′. asymmetric-rests curve curve′ p p′ (leF-true _ _ e) (leF-true _ _ e′))
+      (λ e′. asymmetric-same (≈F-sym (negated-twice trial)) (mirrored (tension-flows curve′ curve p′ p (leF-false _ _ e′)))))
+      (λ e. tension-flows curve curve′ p p′ (leF-false _ _ e))
     where
-      go : ((trial ≤F tension .limit A) × (leF trial (tension .limit A) ≡ true)) ⊎ ((tension .limit A <F trial) × (leF trial (tension .limit A) ≡ false))
-          → ((negF trial ≤F compression .limit B) × (leF (negF trial) (compression .limit B) ≡ true)) ⊎ ((compression .limit B <F negF trial) × (leF (negF trial) (compression .limit B) ≡ false))
-          → let m = asymmetric tension compression trial A B in
-          Asymmetric tension compression trial A B (m .stress) (m .tension) (m .compression)
-      go (inr (h, e)) c = rw e (tension-flows curve curve′ p p′ h)
-      go (inl (h, e)) (inl (h′, e′)) = rw (e, e′) (asymmetric-rests curve curve′ p p′ h h′)
-      go (inl (h, e)) (inr (h′, e′)) = rw (e, e′) (asymmetric-same (≈F-sym (negated-twice trial)) (mirrored (tension-flows curve′ curve p′ p h′)))
+      solved : AsymmetricMoved → Type 0
+      solved m = Asymmetric tension compression trial A B (m .stress) (m .tension) (m .compression)

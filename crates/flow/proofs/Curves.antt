@@ -2,7 +2,7 @@
 use Prim.Native.Nat.{ℕ, _<_}
 use native.Mathlib.Omega.{arith}
 use lib.IntN.{pos}
-use Rattle.fractions.specs.Fraction.{_≤F_, _<F_, whole}
+use Rattle.fractions.specs.Fraction.{_≤F_, whole}
 use Rattle.fractions.proofs.Common.{is-whole-one, is-le, is-lt}
 use Rattle.fractions.proofs.Comparison.{≤F-trans}
 use Rattle.curve.specs.Curve.{Curve, limitAt}

@@ -1,16 +1,15 @@
 -- Laws 0 and 1: the conditions have a solution and no other, it is the step of the bar without rounding, and plastic strain grows exactly
 -- when the trial passes the limit.
-use mathlib.Core.Bool.{true, false}
-use mathlib.Core.Path.{_≡_}
-use mathlib.Core.Logic.{_⊎_, inl, inr, _↔_}
+use mathlib.Core.Logic.{_↔_}
 use lib.IntN.{pos}
-use Rattle.fractions.specs.Fraction.{Frac, _≤F_, _<F_, _≈F_, leF, whole, _+F_, _-F_, absF, signedF}
-use Rattle.fractions.proofs.Comparison.{≤F-of-<F, ≈F-sym, ≈F-trans, ≈F-refl, leF-cases}
+use Rattle.fractions.specs.Fraction.{Frac, _≤F_, _<F_, _≈F_, whole, _+F_, _-F_, absF, signedF}
+use Rattle.fractions.proofs.Comparison.{≤F-of-<F, ≈F-sym, ≈F-trans, ≈F-refl, leF-true, leF-false}
+use Rattle.fractions.proofs.Cases.{cond-cases}
 use Rattle.fractions.proofs.Arithmetic.{signed-same}
 use Rattle.fractions.proofs.Signs.{abs-signed, like-signs-abs, like-signs-sign, signed-rest, nought-signed}
 use Rattle.flow.specs.Side.{Side, accumulated, Hardens}
 use Rattle.flow.specs.Conditions.{OnSide, Isotropic}
-use Rattle.flow.specs.Solution.{flowed, isotropic}
+use Rattle.flow.specs.Solution.{Moved, flowed, isotropic}
 use Rattle.flow.proofs.OneSide.{one-side-unique, grows-past-limit, limit-positive, rests, flows, flow-balances, on-side-same, growth-not-negative}
 
 module _ {side : Side} {trial A stress A′ : Frac} (s : Isotropic side trial A stress A′) where
@@ -59,11 +58,8 @@ module _ {side : Side} (curve : Hardens side) where
 
   -- The step solves the conditions.
   pub isotropic-solves : (trial A : Frac) → side .yield ≤F A
-      → Isotropic side trial A (isotropic side trial A .stress) (isotropic side trial A .variable)
+      → let m = isotropic side trial A in Isotropic side trial A (m .stress) (m .variable)
   unfolding isotropic
-  isotropic-solves trial A p = go (leF-cases (absF trial) (side .limit A))
-    where
-      go : ((absF trial ≤F side .limit A) × (leF (absF trial) (side .limit A) ≡ true)) ⊎ ((side .limit A <F absF trial) × (leF (absF trial) (side .limit A) ≡ false))
-          → Isotropic side trial A (isotropic side trial A .stress) (isotropic side trial A .variable)
-      go (inl (h, e)) = rw e (isotropic-rests p h)
-      go (inr (h, e)) = rw e (isotropic-flows p h)
+  isotropic-solves trial A p =
+      cond-cases (λ (m : Moved). Isotropic side trial A (m .stress) (m .variable)) _ _ _
+      (λ e. isotropic-rests p (leF-true _ _ e)) (λ e. isotropic-flows p (leF-false _ _ e))

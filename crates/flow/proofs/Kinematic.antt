@@ -1,23 +1,23 @@
 -- Law 2: the conditions have a solution and no other, it is the step of the bar without rounding, and plastic strain grows exactly when the
 -- trial passes the radius. About its centre the law is one side of a flat curve: with u = stress - X′ and v = trial - X, v - u is
 -- E / (E - tangent) times the growth, with the sign of u, so that |v| = |u| + that growth.
-use mathlib.Core.Bool.{true, false}
 use mathlib.Core.Path.{_≡_, ap}
 use mathlib.Core.List.{[], _∷_}
-use mathlib.Core.Logic.{_⊎_, inl, inr, _↔_}
+use mathlib.Core.Logic.{_↔_}
 use Prim.Native.Nat.{ℕ, _+_, _-_, _*_, _≤_, _<_}
 use native.Mathlib.Nat.{sub-pos-iff-lt}
 use native.Mathlib.Decide.{decLe}
 use native.Mathlib.Omega.{arith}
 use lib.IntN.{pos}
-use Rattle.fractions.specs.Fraction.{Frac, _≤F_, _<F_, _≈F_, leF, whole, _+F_, _-F_, absF, signedF, timesF}
+use Rattle.fractions.specs.Fraction.{Frac, _≤F_, _<F_, _≈F_, whole, _+F_, _-F_, absF, signedF, timesF}
 use Rattle.fractions.proofs.Common.{Is, is-whole, is-scale, is-add, is-sub, is-abs, is-abs-up, is-abs-dn, is-signed-up, is-signed-dn, is-times, is-le, is-lt, is-eq, at-common}
-use Rattle.fractions.proofs.Comparison.{≤F-refl, ≤F-of-<F, ≤F-of-≈F, ≈F-sym, ≈F-trans, ≈F-refl, leF-cases}
+use Rattle.fractions.proofs.Comparison.{≤F-refl, ≤F-of-<F, ≤F-of-≈F, ≈F-sym, ≈F-trans, ≈F-refl, leF-true, leF-false}
+use Rattle.fractions.proofs.Cases.{cond-cases}
 use Rattle.fractions.proofs.Arithmetic.{add-same, sub-same, abs-same, add-then-sub, times-times, add-injective, sub-injective, signed-same, times-same, times-not-negative, times-positive, times-injective}
 use Rattle.fractions.proofs.Signs.{abs-signed, abs-not-negative, nought-signed, signed-signed, like-signs-abs, like-signs-sign, times-signed}
 use Rattle.flow.specs.Side.{Side, accumulated, Hardens}
 use Rattle.flow.specs.Conditions.{OnSide, Kinematic}
-use Rattle.flow.specs.Solution.{kinematic}
+use Rattle.flow.specs.Solution.{Moved, kinematic}
 use Rattle.flow.proofs.OneSide.{one-side-unique, grows-past-limit}
 
 -- A limit that never rises.
@@ -215,10 +215,6 @@ module _ {E tangent : ℕ} {below : tangent < E} {yield : Frac} (positive : whol
       → let m = kinematic E tangent h yield trial X in
       Kinematic E tangent below yield trial X (m .stress) (m .variable) (absF (trial -F m .stress))
   unfolding kinematic
-  kinematic-solves h trial X = go (leF-cases (absF (trial -F X)) yield)
-    where
-      go : ((absF (trial -F X) ≤F yield) × (leF (absF (trial -F X)) yield ≡ true)) ⊎ ((yield <F absF (trial -F X)) × (leF (absF (trial -F X)) yield ≡ false))
-          → let m = kinematic E tangent h yield trial X in
-          Kinematic E tangent below yield trial X (m .stress) (m .variable) (absF (trial -F m .stress))
-      go (inl (l, e)) = rw e (kinematic-rests l)
-      go (inr (l, e)) = rw e (kinematic-flows h l)
+  kinematic-solves h trial X =
+      cond-cases (λ (m : Moved). Kinematic E tangent below yield trial X (m .stress) (m .variable) (absF (trial -F m .stress))) _ _ _
+      (λ e. kinematic-rests (leF-true _ _ e)) (λ e. kinematic-flows h (leF-false _ _ e))

@@ -1,23 +1,23 @@
 -- Law 2: what is stored is the stated rounding of every candidate that meets the conditions.
 use mathlib.Core.Path.{_≡_, refl}
-use mathlib.Core.Bool.{true, false≢true}
+use mathlib.Core.Bool.{true, false, false≢true}
 use mathlib.Core.Logic.{_↔_, Iff·trans, ⊎-elim}
 use Prim.Native.Nat.{ℕ, _-_, _*_, _/_, _≤_, _<_}
-use native.Mathlib.Decide.{decLe}
-use borrow.Author.Tests.{le-leb, lt-leb}
+use borrow.Author.Tests.{leb-true, leb-false}
 use native.Mathlib.Omega.{arith}
-use lib.Dec.{lt→ltb}
-use lib.IntN.{ℤ, pos, natAbs, _-ℤ_}
+use lib.Dec.{leb, lt→ltb}
+use lib.IntN.{ℤ, pos, natAbs, _+ℤ_, _-ℤ_}
 use lib.Signed.{ltZ-yes}
-use Rattle.fractions.specs.Fraction.{Frac, _≤F_, _<F_, _≈F_, whole, _+F_, _-F_, absF, signedF, timesF}
+use Rattle.fractions.specs.Fraction.{Frac, _≤F_, _<F_, _≈F_, whole, _+F_, _-F_, absF, signed, signedF, timesF}
 use Rattle.fractions.proofs.Common.{is-same, is-whole-one, is-sub, is-le, is-lt, is-eq}
 use Rattle.fractions.proofs.Comparison.{≤F-trans, ≤F-of-≈F, ≤F-of-not-<F, ≈F-sym, ≈F-trans, ≈F-refl, <F-not-≤F, whole-lt, ≤F-or-<F, whole-eq}
 use Rattle.fractions.proofs.Arithmetic.{sub-same, abs-same, add-then-sub, times-same, times-not-negative, whole-abs, whole-sub}
+use Rattle.fractions.proofs.Cases.{cond-cases}
 use Rattle.fractions.proofs.Rounded.{floor-same, floor-times, floor-unique}
 use Rattle.fractions.proofs.Signs.{abs-signed}
 use Rattle.flow.specs.Conditions.{Kinematic}
 use Rattle.flow.specs.Rounded.{KinematicRounded}
-use Rattle.flow.specs.Stored.{kinematicStored}
+use Rattle.flow.specs.Stored.{KinematicStored, kinematicStored}
 use Rattle.flow.proofs.Kinematic.{kinematic-grows, kinematic-unique, kinematic-rests, kinematic-flows}
 
 module _ {E tangent : ℕ} {below : tangent < E} (E-pos : 0 < E) {yield : ℕ} (yield-pos : 0 < yield) (trial X : ℤ) {q X′ growth : Frac}
@@ -57,29 +57,30 @@ module _ {E tangent : ℕ} {below : tangent < E} (E-pos : 0 < E) {yield : ℕ} (
   pub kinematic-rounded : let stored = kinematicStored E tangent yield trial X in
       KinematicRounded yield trial X q X′ growth (stored .stress) (stored .centre) × ((stored .yielded ≡ true) ↔ (whole (pos 0) <F growth))
   unfolding kinematicStored
-  kinematic-rounded = go (decLe (natAbs (trial -ℤ X)) yield)
+  kinematic-rounded =
+      cond-cases rounded (leb (natAbs (trial -ℤ X)) yield) _ _
+      (λ t. rested (leb-true (natAbs (trial -ℤ X)) yield t)) (λ t. flowed-past (leb-false (natAbs (trial -ℤ X)) yield t))
     where
+      rounded : KinematicStored → Type 0
+      rounded m = KinematicRounded yield trial X q X′ growth (m .stress) (m .centre) × ((m .yielded ≡ true) ↔ (whole (pos 0) <F growth))
+
       grows : (whole (pos 0) <F growth) ↔ (yield < natAbs (trial -ℤ X))
       grows = Iff·trans (kinematic-grows positive s) passes
 
-      go : Dec (natAbs (trial -ℤ X) ≤ yield)
-          → let stored = kinematicStored E tangent yield trial X in
-          KinematicRounded yield trial X q X′ growth (stored .stress) (stored .centre) × ((stored .yielded ≡ true) ↔ (whole (pos 0) <F growth))
-      go (yes l) =
-          let stays : ¬ (whole (pos 0) <F growth) = λ g. let past = grows .0 g in omega arith in
-          let (stress, centre, _) = kinematic-unique positive s (kinematic-rests positive (≤F-of-not-<F (λ g. let past = passes .0 g in omega arith))) in
-          rw (le-leb (natAbs (trial -ℤ X)) yield l)
+      rested : natAbs (trial -ℤ X) ≤ yield → rounded (record { yielded = false; stress = trial; centre = X })
+      rested l =
+          let stays : ¬ (whole (pos 0) <F growth) = λ g. omega (arith, grows .0 g) in
+          let (stress, centre, _) = kinematic-unique positive s (kinematic-rests positive (≤F-of-not-<F (λ g. omega (arith, passes .0 g)))) in
           (record { grown = λ g. absurd (stays g); still = λ g. (centre, stress) }, (λ t. absurd (false≢true t), λ g. absurd (stays g)))
-      go (no l) =
-          let past : yield < natAbs (trial -ℤ X) = omega arith in
+
+      flowed-past : yield < natAbs (trial -ℤ X)
+          → let v = trial -ℤ X in
+          let stored = X +ℤ signed v (pos ((natAbs v - yield) * tangent / E)) in
+          rounded (record { yielded = true; stress = stored +ℤ signed v (pos yield); centre = stored })
+      flowed-past l =
           let move = (natAbs (trial -ℤ X) - yield) * tangent / E in
-          rw (lt-leb (natAbs (trial -ℤ X)) yield past) (
-            record {
-              grown = λ g. (move, floor-same (pos move) (≈F-sym (centre-moves past)) (floor-times (natAbs (trial -ℤ X) - yield) tangent E E-pos), refl, refl);
-              still = λ g. absurd (<F-not-≤F (grows .1 past) g);
-            },
-            (λ t. grows .1 past, λ g. refl),
-          )
+          let floor = floor-same (pos move) (≈F-sym (centre-moves l)) (floor-times (natAbs (trial -ℤ X) - yield) tangent E E-pos) in
+          (record { grown = λ g. (move, floor, refl, refl); still = λ g. absurd (<F-not-≤F (grows .1 l) g) }, (λ t. grows .1 l, λ g. refl))
 
 -- The rounding of a candidate is one stress and one centre.
 pub kinematic-rounded-unique : {yield : ℕ} {trial X : ℤ} {q X′ growth : Frac} {r r′ c c′ : ℤ}

@@ -2,16 +2,17 @@
 -- gives the exact abscissa rounded up.
 use mathlib.Core.Path.{_≡_, refl}
 use mathlib.Core.List.{[], _∷_}
-use mathlib.Core.Bool.{true, false≢true}
+use mathlib.Core.Bool.{true, false, false≢true}
 use mathlib.Core.Logic.{_↔_, ⊎-elim, Iff·trans}
 use Prim.Native.Nat.{ℕ, _+_, _-_, _≤_, _<_}
-use native.Mathlib.Decide.{decLe}
-use borrow.Author.Tests.{le-leb, lt-leb}
+use borrow.Author.Tests.{leb-true, leb-false}
 use native.Mathlib.Omega.{arith}
+use lib.Dec.{leb}
 use lib.IntN.{pos}
 use Rattle.fractions.specs.Fraction.{Frac, _≤F_, _<F_, _≈F_, whole, _+F_, _-F_}
 use Rattle.fractions.proofs.Common.{is-add, is-sub, is-le, is-eq, at-common}
 use Rattle.fractions.proofs.Comparison.{≤F-antisym, ≈F-sym, <F-not-≤F, ≤F-or-<F, ≈F-trans, ≈F-refl, whole-eq}
+use Rattle.fractions.proofs.Cases.{cond-cases}
 use Rattle.fractions.proofs.Rounded.{floor-passed, excess-ceiling, ceiling-same, floor-unique, ceiling-unique}
 use Rattle.flow.specs.Side.{Side, accumulated, Hardens}
 use Rattle.flow.specs.Conditions.{OnSide}
@@ -54,28 +55,32 @@ module _ {side : Side} (curve : Hardens side) {limit : ℕ → ℕ} (floor : (a 
 
   pub side-rounded : SideRounded side A q B (sideStored limit m A)
   unfolding sideStored
-  side-rounded = go (decLe m (limit A))
+  side-rounded =
+      cond-cases (SideRounded side A q B) (leb m (limit A)) _ _
+      (λ t. rested (leb-true m (limit A) t)) (λ t. flowed-past (leb-false m (limit A) t))
     where
-      go : Dec (m ≤ limit A) → SideRounded side A q B (sideStored limit m A)
-      go (yes l) =
-          let stays : ¬ (accumulated side (whole (pos A)) <F accumulated side B) = λ g. let passed = grows-past-floor .0 g in omega arith in
-          rw (le-leb m (limit A) l)
+      rested : m ≤ limit A → SideRounded side A q B (record { yielded = false; magnitude = m; abscissa = A })
+      rested l =
+          let stays : ¬ (accumulated side (whole (pos A)) <F accumulated side B) = λ g. omega (arith, grows-past-floor .0 g) in
           record {
             abscissa = record { grown = λ g. absurd (stays g); still = still-abscissa h e curve p };
             grown = λ g. absurd (stays g);
             still = still-stress h e;
             yields = (λ t. absurd (false≢true t), λ g. absurd (stays g));
           }
-      go (no l) =
-          let passed : limit A < m = omega arith in
-          let grows = grows-past-floor .1 passed in
-          rw (lt-leb m (limit A) passed)
+
+      flowed-past : limit A < m
+          → let A′ = A + (m - limit A) in SideRounded side A q B (record { yielded = true; magnitude = limit A′; abscissa = A′ })
+      flowed-past l =
+          let A′ = A + (m - limit A) in
+          let grows = grows-past-floor .1 l in
           record {
-            abscissa = record {
-              grown = λ g. ceiling-same (pos (A + (m - limit A))) (≈F-sym (grown-abscissa h e g)) (excess-ceiling (floor A .floor) m A (omega arith));
-              still = λ g. absurd (<F-not-≤F grows g);
-            };
-            grown = λ g. floor (A + (m - limit A));
+            abscissa =
+                record {
+                  grown = λ g. ceiling-same (pos A′) (≈F-sym (grown-abscissa h e g)) (excess-ceiling (floor A .floor) m A (omega arith));
+                  still = λ g. absurd (<F-not-≤F grows g);
+                };
+            grown = λ g. floor A′;
             still = λ g. absurd (<F-not-≤F grows g);
             yields = (λ t. grows, λ g. refl);
           }

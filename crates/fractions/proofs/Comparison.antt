@@ -1,7 +1,7 @@
 -- The order of fractions is total and decidable, and "the same number" is an equivalence, whatever the denominators.
 use mathlib.Core.List.{[], _∷_}
-use mathlib.Core.Bool.{Bool, true, false}
-use mathlib.Core.Path.{_≡_, refl}
+use mathlib.Core.Bool.{true, false}
+use mathlib.Core.Path.{_≡_}
 use mathlib.Core.Logic.{_↔_, _⊎_, inl, inr, ⊎-elim}
 use Prim.Native.Nat.{ℕ, _+_, _≤_}
 use native.Mathlib.Decide.{decLe}
@@ -58,17 +58,13 @@ pub ≤F-cases : {x y : Frac} → x ≤F y → (x <F y) ⊎ (x ≈F y)
     go (inr k) = inl k
 
 -- The test says which of the two holds.
-pub leF-cases : (x y : Frac) → ((x ≤F y) × (leF x y ≡ true)) ⊎ ((y <F x) × (leF x y ≡ false))
+pub leF-true : (x y : Frac) → leF x y ≡ true → x ≤F y
 unfolding leF
-leF-cases x y = go (leF x y) refl
-  where
-    go : (b : Bool) → leF x y ≡ b → ((x ≤F y) × (leF x y ≡ true)) ⊎ ((y <F x) × (leF x y ≡ false))
-    go true e = inl (record { cross = leZ-yes (rw e tt) }, e)
-    go false e = inr (above (≤F-or-<F x y), e)
-      where
-        above : (x ≤F y) ⊎ (y <F x) → y <F x
-        above (inl h) = absurd (rw e at (h .cross .le))
-        above (inr h) = h
+leF-true x y e = record { cross = leZ-yes (rw e tt) }
+
+pub leF-false : (x y : Frac) → leF x y ≡ false → y <F x
+unfolding leF
+leF-false x y e = <F-of-not-≤F (λ h. rw e at (h .cross .le))
 
 module _ {x y z : Frac} where
   pub ≤F-trans : x ≤F y → y ≤F z → x ≤F z

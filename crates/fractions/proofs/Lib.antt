@@ -9,3 +9,4 @@ pub mod Secant
 pub mod Concave
 pub mod Moves
 pub mod Signs
+pub mod Cases
