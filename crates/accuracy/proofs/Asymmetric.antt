@@ -29,7 +29,8 @@ record ExactUp (tension compression : Side) (trial A B stress A′ B′ : Frac) 
   move : Move tension 0 trial A stress A′
   other : B′ ≈F B
 
-module _ {tension compression : Side} (curve : Hardens tension) (curve′ : Hardens compression) {trial A B : Frac} (p : tension .yield ≤F A) (p′ : compression .yield ≤F B) where
+module _ {tension compression : Side} (curve : Hardens tension) (curve′ : Hardens compression) {trial A B : Frac} (p : tension .yield ≤F A)
+    (p′ : compression .yield ≤F B) where
   up-rests : whole (pos 0) ≤F trial → trial ≤F tension .limit A → ExactUp tension compression trial A B trial A B
   up-rests l h =
       record {
@@ -39,7 +40,8 @@ module _ {tension compression : Side} (curve : Hardens tension) (curve′ : Hard
         other = ≈F-refl B;
       }
 
-  up-flows : whole (pos 0) ≤F trial → tension .limit A <F trial → ExactUp tension compression trial A B (tension .limit (flowed tension trial A)) (flowed tension trial A) B
+  up-flows : whole (pos 0) ≤F trial → tension .limit A <F trial → ExactUp tension compression trial A B
+      (tension .limit (flowed tension trial A)) (flowed tension trial A) B
   up-flows l h =
       record {
         trial-up = l;
@@ -62,13 +64,15 @@ Exact tension compression trial A B stress A′ B′ = ExactUp tension compressi
 positive-side : {x y : Frac} → whole (pos 0) <F x → x <F y → whole (pos 0) ≤F y
 positive-side h l = ≤F-of-<F (<F-≤F-trans h (≤F-of-<F l))
 
-exact-cases : {tension compression : Side} → Hardens tension → Hardens compression → (trial A B : Frac) → tension .yield ≤F A → compression .yield ≤F B
+exact-cases : {tension compression : Side} → Hardens tension → Hardens compression → (trial A B : Frac) → tension .yield ≤F A
+    → compression .yield ≤F B
     → let m = asymmetric tension compression trial A B in Exact tension compression trial A B (m .stress) (m .tension) (m .compression)
 unfolding asymmetric
 exact-cases {tension} {compression} curve curve′ trial A B p p′ =
     cond-cases case _ _ _
     (λ e. cond-cases case _ _ _
-    (λ e′. ⊎-elim (λ s. inl (up-rests curve curve′ p p′ s (leF-true _ _ e))) (λ s. inr (rests-down s (leF-true _ _ e′))) (≤F-or-<F (whole (pos 0)) trial))
+    (λ e′. ⊎-elim (λ s. inl (up-rests curve curve′ p p′ s (leF-true _ _ e))) (λ s. inr (rests-down s (leF-true _ _ e′)))
+    (≤F-or-<F (whole (pos 0)) trial))
     (λ e′. inr (flows-down (leF-false _ _ e′))))
     (λ e. let h = leF-false _ _ e in inl (up-flows curve curve′ p p′ (positive-side (limit-positive curve p) h) h))
   where
@@ -86,7 +90,8 @@ exact-cases {tension} {compression} curve curve′ trial A B p p′ =
         }
       where
         up : whole (pos 0) ≤F negF trial
-        up = at-common (trial ∷ []) (λ d ((_, _, i), _). let zero = is-whole (pos 0) (i .some) in is-le zero (is-neg i) .1 (omega (arith, is-lt i zero .0 s)))
+        up = at-common (trial ∷ []) (λ d ((_, _, i), _). let zero = is-whole (pos 0) (i .some) in is-le zero (is-neg i) .1
+            (omega (arith, is-lt i zero .0 s)))
 
     flows-down : compression .limit B <F negF trial
         → let B′ = flowed compression (negF trial) B in ExactDown tension compression trial A B (negF (compression .limit B′)) A B′
@@ -100,7 +105,8 @@ exact-cases {tension} {compression} curve curve′ trial A B p p′ =
         }
 
 -- A side that the other one's trial leaves as it was.
-limit-kept : {side : Side} → Hardens side → {k : ℕ} (g : ℕ) {A : ℕ} {exact exact′ : Frac} → exact′ ≈F exact → LimitClose side k A exact → LimitClose side (k + g) A exact′
+limit-kept : {side : Side} → Hardens side → {k : ℕ} (g : ℕ) {A : ℕ} {exact exact′ : Frac} → exact′ ≈F exact → LimitClose side k A exact
+    → LimitClose side (k + g) A exact′
 limit-kept {side} curve g {A} e c =
     record {
       past = c .past;
@@ -130,14 +136,20 @@ module _ {tension compression : Side} (curve : Hardens tension) (curve′ : Hard
   up-and-down : ExactDown tension compression trial exact-A exact-B stress A′ B′ → UpClose tension compression k (sideStored limit m A) B stress A′ B′
   up-and-down e =
       let limits = limits-apart curve (c .past) (c .exact-past) move (trial-small k g sum (e .up .trial-up)) (c .close) in
-      let limits′ = limits-apart curve′ (c′ .exact-past) (c′ .past) (e .up .move) (rw add-zero at (exact-trial-small k 0 sum (not-negative m))) (within-sym (c′ .close)) in (
+      let limits′ = limits-apart curve′ (c′ .exact-past) (c′ .past) (e .up .move)
+      (rw add-zero at (exact-trial-small k 0 sum (not-negative m))) (within-sym (c′ .close)) in (
         stresses,
         record {
           past = stays-past curve (c .past) move;
           exact-past = ≤F-trans (c .exact-past) (≤F-of-≈F (≈F-sym (e .up .other)));
-          close = within-same limits (≈F-refl (tension .limit (whole (pos (sideStored limit m A .abscissa))))) (curve .respects (≈F-sym (e .up .other)));
+          close = within-same limits (≈F-refl (tension .limit (whole (pos (sideStored limit m A .abscissa)))))
+              (curve .respects (≈F-sym (e .up .other)));
         },
-        record { past = c′ .past; exact-past = stays-past curve′ (c′ .exact-past) (e .up .move); close = within-weaken (within-sym (rw add-zero at limits′)) g },
+        record {
+          past = c′ .past;
+          exact-past = stays-past curve′ (c′ .exact-past) (e .up .move);
+          close = within-weaken (within-sym (rw add-zero at limits′)) g;
+        },
       )
     where
       g : ℕ
@@ -170,7 +182,8 @@ module _ {tension compression : Side} (curve : Hardens tension) (curve′ : Hard
           let up′ = is-le zero i .0 (not-negative mag) in
           is-within (k + g) i q .1 (record { above = omega arith; below = omega arith }))
 
-module _ {tension compression : Side} (curve : Hardens tension) (curve′ : Hardens compression) (flat : Flattens tension) (flat′ : Flattens compression)
+module _ {tension compression : Side} (curve : Hardens tension) (curve′ : Hardens compression) (flat : Flattens tension)
+    (flat′ : Flattens compression)
     {limitT limitC : ℕ → ℕ} (floorT : (a : ℕ) → LimitRounded tension a (limitT a)) (floorC : (a : ℕ) → LimitRounded compression a (limitC a))
     {k A B : ℕ} {trial exact-A exact-B stress A′ B′ : Frac} (c : LimitClose tension k A exact-A) (c′ : LimitClose compression k B exact-B)
     (e : Exact tension compression trial exact-A exact-B stress A′ B′) where
@@ -181,22 +194,27 @@ module _ {tension compression : Side} (curve : Hardens tension) (curve′ : Hard
   down-close : (m : ℕ) → Within k (whole (pos m)) (negF trial) → UpClose compression tension k (sideStored limitC m B) A (negF stress) B′ A′
   down-close m near = ⊎-elim from-up from-down e
     where
-      from-up : ExactUp tension compression trial exact-A exact-B stress A′ B′ → UpClose compression tension k (sideStored limitC m B) A (negF stress) B′ A′
+      from-up : ExactUp tension compression trial exact-A exact-B stress A′ B′ → UpClose compression tension k (sideStored limitC m B) A
+          (negF stress) B′ A′
       from-up up =
           up-and-down curve′ curve flat′ floorC m near c′ c
           (record { trial-down = trial; stress-down = stress; trial-negated = negated-twice trial; stress-negated = negated-twice stress; up = up })
 
-      from-down : ExactDown tension compression trial exact-A exact-B stress A′ B′ → UpClose compression tension k (sideStored limitC m B) A (negF stress) B′ A′
+      from-down : ExactDown tension compression trial exact-A exact-B stress A′ B′ → UpClose compression tension k (sideStored limitC m B) A
+          (negF stress) B′ A′
       from-down d =
-          let (stresses, limits, limits′) = both-up curve′ curve flat′ floorC m (within-same near (≈F-refl (whole (pos m))) (≈F-sym (d .trial-negated))) c′ c (d .up) in
+          let (stresses, limits, limits′) = both-up curve′ curve flat′ floorC m
+          (within-same near (≈F-refl (whole (pos m))) (≈F-sym (d .trial-negated))) c′ c (d .up) in
           (within-same stresses (≈F-refl (whole (pos (sideStored limitC m B .magnitude)))) (d .stress-negated), limits, limits′)
 
 pub asymmetric-stays-close : {tension compression : Side} → Hardens tension → Hardens compression → Flattens tension → Flattens compression
     → {limitT limitC : ℕ → ℕ} → ((a : ℕ) → LimitRounded tension a (limitT a)) → ((a : ℕ) → LimitRounded compression a (limitC a))
-    → {k : ℕ} {stress : ℤ} {A B : ℕ} {exact-stress exact-A exact-B : Frac} → AsymmetricClose tension compression k stress A B exact-stress exact-A exact-B → (w : ℤ)
+    → {k : ℕ} {stress : ℤ} {A B : ℕ} {exact-stress exact-A exact-B : Frac}
+    → AsymmetricClose tension compression k stress A B exact-stress exact-A exact-B → (w : ℤ)
     → let stored = asymmetricStored limitT limitC (stress +ℤ w) A B in
     let exact = asymmetric tension compression (exact-stress +F whole w) exact-A exact-B in
-    AsymmetricClose tension compression (k + flow-count (stored .yielded)) (stored .stress) (stored .tension) (stored .compression) (exact .stress) (exact .tension) (exact .compression)
+    AsymmetricClose tension compression (k + flow-count (stored .yielded)) (stored .stress) (stored .tension) (stored .compression)
+    (exact .stress) (exact .tension) (exact .compression)
 unfolding asymmetricStored
 asymmetric-stays-close {tension} {compression} curve curve′ flat flat′ {limitT} {limitC} floorT floorC {k} {stress} {A} {B} {exact-stress} {exact-A} {exact-B} c w =
     go (stress +ℤ w) (within-add stress w (c .stress-close))
@@ -212,14 +230,17 @@ asymmetric-stays-close {tension} {compression} curve curve′ flat flat′ {limi
 
     go : (s : ℤ) → Within k (whole s) trial
         → let stored = asymmetricStored limitT limitC s A B in
-        AsymmetricClose tension compression (k + flow-count (stored .yielded)) (stored .stress) (stored .tension) (stored .compression) (m .stress) (m .tension) (m .compression)
+        AsymmetricClose tension compression (k + flow-count (stored .yielded)) (stored .stress) (stored .tension) (stored .compression)
+        (m .stress) (m .tension) (m .compression)
     go (pos n) near =
         let (stresses, limits, limits′) = up-close curve curve′ flat flat′ floorT floorC (c .tension-close) (c .compression-close) e n near in
         record { stress-close = stresses; tension-close = limits; compression-close = limits′ }
     go (negsuc n) near =
-        let (stresses, limits, limits′) = down-close curve curve′ flat flat′ floorT floorC (c .tension-close) (c .compression-close) e (suc n) (rw whole-neg at (within-neg near)) in
+        let (stresses, limits, limits′) = down-close curve curve′ flat flat′ floorT floorC (c .tension-close) (c .compression-close) e
+        (suc n) (rw whole-neg at (within-neg near)) in
         record {
-          stress-close = within-same (rw whole-neg at (within-neg stresses)) (≈F-refl (whole (negℤ (pos (sideStored limitC (suc n) B .magnitude))))) (≈F-sym (negated-twice (m .stress)));
+          stress-close = within-same (rw whole-neg at (within-neg stresses))
+              (≈F-refl (whole (negℤ (pos (sideStored limitC (suc n) B .magnitude))))) (≈F-sym (negated-twice (m .stress)));
           tension-close = limits′;
           compression-close = limits;
         }

@@ -46,8 +46,10 @@ module _ {E t : ℕ} {h : 0 < E} (slope : t ≤ E) {g : ℕ} {y s x q x′ : Fra
       let below = is-le c′ (is-add z′ r) .0 (n .below) in
       let on = is-le j v .0 (b .on) in
       let behind = is-le (is-add v r) i .0 stays-behind in
-      let radius = is-eq u (is-add v r) .0 (b .radius) in
-      (is-within k u z′ .1 (record { above = omega arith; below = omega arith }), is-within k v c′ .1 (record { above = omega arith; below = omega arith })))
+      let radius = is-eq u (is-add v r) .0 (b .radius) in (
+        is-within k u z′ .1 (record { above = omega arith; below = omega arith }),
+        is-within k v c′ .1 (record { above = omega arith; below = omega arith }),
+      ))
 
   -- The two beyond the radius on different sides.
   pub beyond-apart : {k g′ : ℕ} {z c w c′ : Frac} → whole (pos 0) ≤F y → Beyond E t h g′ y (negF z) (negF c) (negF w) (negF c′)
@@ -63,8 +65,10 @@ module _ {E t : ℕ} {h : 0 < E} (slope : t ≤ E) {g : ℕ} {y s x q x′ : Fra
       let radius = is-eq u (is-add v r) .0 (b .radius) in
       let on′ = is-le (is-neg c₀) (is-neg v₀) .0 (b′ .on) in
       let behind₀ = is-le (is-add (is-neg v₀) r) (is-neg z₀) .0 behind′ in
-      let radius′ = is-eq (is-neg w₀) (is-add (is-neg v₀) r) .0 (b′ .radius) in
-      (is-within k u w₀ .1 (record { above = omega arith; below = omega arith }), is-within k v v₀ .1 (record { above = omega arith; below = omega arith })))
+      let radius′ = is-eq (is-neg w₀) (is-add (is-neg v₀) r) .0 (b′ .radius) in (
+        is-within k u w₀ .1 (record { above = omega arith; below = omega arith }),
+        is-within k v v₀ .1 (record { above = omega arith; below = omega arith }),
+      ))
 
 -- Both beyond the radius on the same side: E (x′ - c′) is (E - t) (x - c) + t (s - z), but for the rounding. In naturals: the first centre's
 -- move is at most its share, the second one's at least its own, but for n.
@@ -102,8 +106,10 @@ module _ {E t : ℕ} {h : 0 < E} (slope : t ≤ E) {g k : ℕ} {y s x q x′ z c
           let most = is-le (is-add (is-scale E h j) f) (is-add (is-scale E h v) (is-whole (pos g) (f .some))) .0 (b .most) in
           let least′ = is-le (is-scale E h v₀) (is-add (is-scale E h c₀) f′) .0 (b′ .least) in
           let most′ = is-le (is-add (is-scale E h c₀) f′) (is-add (is-scale E h v₀) (is-whole (pos 0) (f .some))) .0 (b′ .most) in
-          let above = weighed E t u d k 0 (w₁ + v₂) (v₁ + w₂) (x₁ + c₂) (c₁ + x₂) (s₁ + z₂) (z₁ + s₂) e (moves-differ E t _ _ _ _ _ _ _ _ _ _ _ _ y₁ y₂ _ _ least most′) (centres .above) (near .above) in
-          let below = weighed E t u d k g (v₁ + w₂) (w₁ + v₂) (c₁ + x₂) (x₁ + c₂) (z₁ + s₂) (s₁ + z₂) e (moves-differ E t _ _ _ _ _ _ _ _ _ _ _ _ y₁ y₂ _ _ least′ most) (centres .below) (near .below) in
+          let above = weighed E t u d k 0 (w₁ + v₂) (v₁ + w₂) (x₁ + c₂) (c₁ + x₂) (s₁ + z₂) (z₁ + s₂) e
+          (moves-differ E t _ _ _ _ _ _ _ _ _ _ _ _ y₁ y₂ _ _ least most′) (centres .above) (near .above) in
+          let below = weighed E t u d k g (v₁ + w₂) (w₁ + v₂) (c₁ + x₂) (x₁ + c₂) (z₁ + s₂) (s₁ + z₂) e
+          (moves-differ E t _ _ _ _ _ _ _ _ _ _ _ _ y₁ y₂ _ _ least′ most) (centres .below) (near .below) in
           is-within (k + g) (is-scale E h v) (is-scale E h v₀) .1 (near-of E v₁ v₂ w₁ w₂ d k g above below))
 
   pub beyond-both : Within (k + g) q w × Within (k + g) x′ c′

@@ -50,7 +50,8 @@ exact-move {side} curve trial a p =
     })
 
 module _ {side : Side} (curve : Hardens side) (flat : Flattens side) {limit : ℕ → ℕ} (floor : (a : ℕ) → LimitRounded side a (limit a)) where
-  pub isotropic-stays-close : {k : ℕ} {stress : ℤ} {A : ℕ} {exact-stress exact-A : Frac} → IsotropicClose side k stress A exact-stress exact-A → (w : ℤ)
+  pub isotropic-stays-close : {k : ℕ} {stress : ℤ} {A : ℕ} {exact-stress exact-A : Frac}
+      → IsotropicClose side k stress A exact-stress exact-A → (w : ℤ)
       → let stored = isotropicStored limit (stress +ℤ w) A in
       let exact = isotropic side (exact-stress +F whole w) exact-A in
       IsotropicClose side (k + flow-count (stored .yielded)) (stored .stress) (stored .abscissa) (exact .stress) (exact .variable)
@@ -85,7 +86,8 @@ module _ {side : Side} (curve : Hardens side) (flat : Flattens side) {limit : �
           → Within (k + g) (whole (signed trial (pos (r .magnitude)))) (b .stress)
       signed-back h = rw whole-signed at (within-same h (≈F-refl (signedF (whole trial) (whole (pos (r .magnitude))))) (≈F-sym (exact .signed)))
 
-      made : Within (k + g) (whole (signed trial (pos (r .magnitude)))) (b .stress) → Within (k + g) (side .limit (whole (pos (r .abscissa)))) (side .limit (b .variable))
+      made : Within (k + g) (whole (signed trial (pos (r .magnitude)))) (b .stress) → Within (k + g)
+          (side .limit (whole (pos (r .abscissa)))) (side .limit (b .variable))
           → IsotropicClose side (k + g) (signed trial (pos (r .magnitude))) (r .abscissa) (b .stress) (b .variable)
       made stresses limits =
           record {
@@ -98,19 +100,24 @@ module _ {side : Side} (curve : Hardens side) (flat : Flattens side) {limit : �
                 };
           }
 
-      alike : Alike (whole trial) exact-trial → IsotropicClose side (k + g) (signed trial (pos (r .magnitude))) (r .abscissa) (b .stress) (b .variable)
+      alike : Alike (whole trial) exact-trial → IsotropicClose side (k + g) (signed trial (pos (r .magnitude))) (r .abscissa) (b .stress)
+          (b .variable)
       alike a =
-          let (stresses, limits) = same-signs curve flat (c .limit-close .past) (c .limit-close .exact-past) move (exact .move) (a .magnitudes near) (c .limit-close .close) in
+          let (stresses, limits) = same-signs curve flat (c .limit-close .past) (c .limit-close .exact-past) move (exact .move)
+          (a .magnitudes near) (c .limit-close .close) in
           made (signed-back (a .back stresses)) limits
 
-      unlike : Unlike (whole trial) exact-trial → IsotropicClose side (k + g) (signed trial (pos (r .magnitude))) (r .abscissa) (b .stress) (b .variable)
+      unlike : Unlike (whole trial) exact-trial → IsotropicClose side (k + g) (signed trial (pos (r .magnitude))) (r .abscissa) (b .stress)
+          (b .variable)
       unlike u =
           let sum = u .magnitudes near in
           let p = c .limit-close .past in
           let p′ = c .limit-close .exact-past in
           let first = limits-apart curve p p′ move (trial-small k g sum (abs-not-negative exact-trial)) (c .limit-close .close) in
-          let both = limits-apart curve p′ (stays-past curve p move) (exact .move) (exact-trial-small k g sum (abs-not-negative (whole trial))) (within-sym first) in
-          made (signed-back (u .back not-negative (exact .not-negative) (magnitudes-small k g sum (no-more-than-trial move) (no-more-than-trial (exact .move)))))
+          let both = limits-apart curve p′ (stays-past curve p move) (exact .move)
+          (exact-trial-small k g sum (abs-not-negative (whole trial))) (within-sym first) in
+          made (signed-back (u .back not-negative (exact .not-negative)
+          (magnitudes-small k g sum (no-more-than-trial move) (no-more-than-trial (exact .move)))))
           (rw add-zero at (within-sym both))
         where
           not-negative : whole (pos 0) ≤F whole (pos (r .magnitude))

@@ -51,7 +51,8 @@ data CentreMove (E t : ℕ) (h : 0 < E) (g : ℕ) (y s x q x′ : Frac) : Type 0
   inside : Inside y s x → q ≈F s → x′ ≈F x → CentreMove E t h g y s x q x′
   beyond : (b : Bool) → Beyond E t h g y (turn b s) (turn b x) (turn b q) (turn b x′) → CentreMove E t h g y s x q x′
 
-module _ {E t : ℕ} {h : 0 < E} (slope : t ≤ E) {k g : ℕ} {y s x q x′ z c w c′ : Frac} (zero : whole (pos 0) ≤F y) (hs : Within k s z) (hx : Within k x c) where
+module _ {E t : ℕ} {h : 0 < E} (slope : t ≤ E) {k g : ℕ} {y s x q x′ z c w c′ : Frac} (zero : whole (pos 0) ≤F y) (hs : Within k s z)
+    (hx : Within k x c) where
   apart : CentreMove E t h g y s x q x′ → CentreMove E t h 0 y z c w c′ → Within (k + g) q w × Within (k + g) x′ c′
   apart (inside n e f) (inside n′ e′ f′) =
       (within-weaken (within-same hs (≈F-sym e) (≈F-sym e′)) g, within-weaken (within-same hx (≈F-sym f) (≈F-sym f′)) g)
@@ -85,7 +86,8 @@ exact-inside {y} {s} {x} l =
 
 -- What has the sign of v beside a sum, on the side of v.
 neg-sum : (a b : Frac) {c : Frac} → c ≈F negF b → negF (a +F c) ≈F (negF a +F b)
-neg-sum a b {c} e = at-common (a ∷ b ∷ []) (λ d ((_, _, i), ((_, _, j), _)). is-eq (is-neg (is-add i (is-same (≈F-sym e) (is-neg j)))) (is-add (is-neg i) j) .1 (omega arith))
+neg-sum a b {c} e = at-common (a ∷ b ∷ [])
+    (λ d ((_, _, i), ((_, _, j), _)). is-eq (is-neg (is-add i (is-same (≈F-sym e) (is-neg j)))) (is-add (is-neg i) j) .1 (omega arith))
 
 module _ {E t : ℕ} {h : 0 < E} {y : Frac} where
   exact-beyond : {s x q x′ : Frac} → (x +F y) <F s → x′ ≈F (x +F timesF (s -F x -F y) t E h) → q ≈F (x′ +F y) → Beyond E t h 0 y s x q x′
@@ -94,10 +96,12 @@ module _ {E t : ℕ} {h : 0 < E} {y : Frac} where
         passes = p;
         radius = f;
         on =
-            ≤F-trans (at-common (x ∷ share ∷ []) (λ d ((_, _, j), ((_, _, k), _)). is-le j (is-add j k) .1 (omega (arith, is-le (is-whole (pos 0) (j .some)) k .0 up))))
+            ≤F-trans (at-common (x ∷ share ∷ [])
+            (λ d ((_, _, j), ((_, _, k), _)). is-le j (is-add j k) .1 (omega (arith, is-le (is-whole (pos 0) (j .some)) k .0 up))))
             (≤F-of-≈F (≈F-sym e));
         least = ≤F-of-≈F e;
-        most = ≤F-trans (≤F-of-≈F (≈F-sym e)) (at-common (x′ ∷ []) (λ d ((_, _, j), _). is-le j (is-add j (is-whole (pos 0) (j .some))) .1 (omega arith)));
+        most = ≤F-trans (≤F-of-≈F (≈F-sym e))
+            (at-common (x′ ∷ []) (λ d ((_, _, j), _). is-le j (is-add j (is-whole (pos 0) (j .some))) .1 (omega arith)));
       }
     where
       share : Frac
@@ -106,14 +110,16 @@ module _ {E t : ℕ} {h : 0 < E} {y : Frac} where
       up : whole (pos 0) ≤F share
       up =
           times-not-negative (s -F x -F y) t E h
-          (at-common (y ∷ s ∷ x ∷ []) (λ d ((_, _, r), ((_, _, i), ((_, _, j), _))). is-le (is-whole (pos 0) (r .some)) (is-sub (is-sub i j) r) .1 (omega (arith, is-lt (is-add j r) i .0 p))))
+          (at-common (y ∷ s ∷ x ∷ []) (λ d ((_, _, r), ((_, _, i), ((_, _, j), _))). is-le (is-whole (pos 0) (r .some))
+          (is-sub (is-sub i j) r) .1 (omega (arith, is-lt (is-add j r) i .0 p))))
 
   exact-centre : (s x : Frac) → let m = kinematic E t h y s x in CentreMove E t h 0 y s x (m .stress) (m .variable)
   unfolding kinematic
   exact-centre s x =
       cond-cases (λ (m : Moved). CentreMove E t h 0 y s x (m .stress) (m .variable)) _ _ _
       (λ e. inside (exact-inside (leF-true _ _ e)) (≈F-refl s) (≈F-refl x))
-      (λ e. ⊎-elim (λ (u, sign). beyond true (upper (leF-false _ _ e) u sign)) (λ (u, sign). beyond false (lower (leF-false _ _ e) u sign)) (sign-cases v))
+      (λ e. ⊎-elim (λ (u, sign). beyond true (upper (leF-false _ _ e) u sign)) (λ (u, sign). beyond false (lower (leF-false _ _ e) u sign))
+      (sign-cases v))
     where
       v : Frac
       v = s -F x
@@ -171,7 +177,8 @@ module _ {E t : ℕ} {h : 0 < E} (y : ℕ) where
             at-common (share ∷ [])
             (λ d ((_, _, i), _).
             let sum = ap (λ (a : ℕ). d * a) (add-parts X (pos M)) in
-            is-le (is-add (is-whole X (i .some)) i) (is-add (is-whole (X +ℤ pos M) (i .some)) (is-whole (pos 1) (i .some))) .1 (omega (arith, is-floor i (pos M) .0 floor .1)));
+            is-le (is-add (is-whole X (i .some)) i) (is-add (is-whole (X +ℤ pos M) (i .some)) (is-whole (pos 1) (i .some))) .1
+            (omega (arith, is-floor i (pos M) .0 floor .1)));
       }
     where
       M : ℕ
@@ -181,7 +188,8 @@ module _ {E t : ℕ} {h : 0 < E} (y : ℕ) where
       distance = omega (arith, sub-parts-ℤ s X, ap up e, ap dn e)
 
       excess : whole (pos (n - y)) ≈F (whole s -F whole X -F whole (pos y))
-      excess = is-eq (is-whole-one (pos (n - y))) (is-sub (is-sub (is-whole-one s) (is-whole-one X)) (is-whole-one (pos y))) .1 (omega (arith, distance))
+      excess = is-eq (is-whole-one (pos (n - y))) (is-sub (is-sub (is-whole-one s) (is-whole-one X)) (is-whole-one (pos y))) .1
+          (omega (arith, distance))
 
       share : Frac
       share = timesF (whole s -F whole X -F whole (pos y)) t E h
@@ -193,7 +201,8 @@ module _ {E t : ℕ} {h : 0 < E} (y : ℕ) where
       CentreMove E t h (flow-count (m .yielded)) (whole (pos y)) (whole s) (whole X) (whole (m .stress)) (whole (m .centre))
   unfolding kinematicStored
   stored-centre s X =
-      cond-cases (λ (m : KinematicStored). CentreMove E t h (flow-count (m .yielded)) (whole (pos y)) (whole s) (whole X) (whole (m .stress)) (whole (m .centre)))
+      cond-cases (λ (m : KinematicStored). CentreMove E t h (flow-count (m .yielded)) (whole (pos y)) (whole s) (whole X)
+      (whole (m .stress)) (whole (m .centre)))
       (leb (natAbs (s -ℤ X)) y) _ _
       (λ l. inside (stored-inside y s X (leb-true (natAbs (s -ℤ X)) y l)) (≈F-refl (whole s)) (≈F-refl (whole X)))
       (λ l. past (s -ℤ X) refl (leb-false (natAbs (s -ℤ X)) y l))
@@ -213,5 +222,6 @@ pub kinematic-stays-close : {E t : ℕ} (h : 0 < E) → t ≤ E → (yield : ℕ
     KinematicClose (k + flow-count (stored .yielded)) (stored .stress) (stored .centre) (exact .stress) (exact .variable)
 kinematic-stays-close h slope yield {stress = stress} {X} {exact-stress} {exact-X} c w =
     let zero = is-le (is-whole-one (pos 0)) (is-whole-one (pos yield)) .1 (omega arith) in
-    let (stresses, centres) = apart slope zero (within-add stress w (c .stress-close)) (c .centre-close) (stored-centre yield (stress +ℤ w) X) (exact-centre (exact-stress +F whole w) exact-X) in
+    let (stresses, centres) = apart slope zero (within-add stress w (c .stress-close)) (c .centre-close)
+    (stored-centre yield (stress +ℤ w) X) (exact-centre (exact-stress +F whole w) exact-X) in
     record { stress-close = stresses; centre-close = centres }

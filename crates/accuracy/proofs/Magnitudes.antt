@@ -18,7 +18,8 @@ use Rattle.accuracy.proofs.Move.{Flows, Move, moves-on, limit-rises, li
 
 -- ---- One of the two flows, the other stays inside its limit
 
-module _ {side : Side} (curve : Hardens side) {k g : ℕ} {x a y b z c : Frac} (p : side .yield ≤F a) (f : Flows side g x a y b) (r : z ≤F side .limit c)
+module _ {side : Side} (curve : Hardens side) {k g : ℕ} {x a y b z c : Frac} (p : side .yield ≤F a) (f : Flows side g x a y b)
+    (r : z ≤F side .limit c)
     (h : Within k x z) (l : Within k (side .limit a) (side .limit c)) where
   pub one-flows : Within (k + g) y z × Within (k + g) (side .limit b) (side .limit c)
   one-flows =
@@ -39,7 +40,8 @@ module _ {side : Side} (curve : Hardens side) {k g : ℕ} {x a y b z c : Frac} (
 -- A trial of at most k on a side where the other one does not move, as where the signs differ: the limits are above nought.
 pub limits-apart : {side : Side} → Hardens side → {k g : ℕ} {x a y b c : Frac} → side .yield ≤F a → side .yield ≤F c → Move side g x a y b
     → x ≤F whole (pos k) → Within k (side .limit a) (side .limit c) → Within (k + g) (side .limit b) (side .limit c)
-limits-apart {side} curve {k} {g} {x} {a} {y} {b} {c} p p′ (inl f) h l = within-weaken (within-same l (curve .respects (≈F-sym (f .abscissa))) (≈F-refl (side .limit c))) g
+limits-apart {side} curve {k} {g} {x} {a} {y} {b} {c} p p′ (inl f) h l = within-weaken
+    (within-same l (curve .respects (≈F-sym (f .abscissa))) (≈F-refl (side .limit c))) g
 limits-apart {side} curve {k} {g} {x} {a} {y} {b} {c} p p′ (inr f) h l =
     at-common (x ∷ side .limit a ∷ side .limit b ∷ side .limit c ∷ [])
     (λ d ((_, _, x′), ((_, _, a′), ((_, _, b′), ((_, _, c′), _)))).
@@ -133,12 +135,16 @@ module _ {side : Side} (curve : Hardens side) (flat : Flattens side) {k g : ℕ}
       on′ = ≤F-of-<F (moves-on curve p′ f′)
 
       rounded-ahead : e ≤F b → (side .limit b ≤F (side .limit e +F whole (pos (k + g)))) × (side .limit e ≤F (side .limit b +F whole (pos k)))
-      rounded-ahead q =
-          (ahead curve flat (k + g) p p′ on on′ q (gap-grows .0) (within-above (within-weaken l g)), at-most-more k (curve .rises (≤F-trans p′ on′) q))
+      rounded-ahead q = (
+        ahead curve flat (k + g) p p′ on on′ q (gap-grows .0) (within-above (within-weaken l g)),
+        at-most-more k (curve .rises (≤F-trans p′ on′) q),
+      )
 
       exact-ahead : b <F e → (side .limit b ≤F (side .limit e +F whole (pos (k + g)))) × (side .limit e ≤F (side .limit b +F whole (pos k)))
-      exact-ahead q =
-          (at-most-more (k + g) (curve .rises (≤F-trans p on) (≤F-of-<F q)), ahead curve flat k p′ p on′ on (≤F-of-<F q) (gap-grows .1) (within-above (within-sym l)))
+      exact-ahead q = (
+        at-most-more (k + g) (curve .rises (≤F-trans p on) (≤F-of-<F q)),
+        ahead curve flat k p′ p on′ on (≤F-of-<F q) (gap-grows .1) (within-above (within-sym l)),
+      )
 
   pub both-flow : Within (k + g) y w × Within (k + g) (side .limit b) (side .limit e)
   both-flow =

@@ -47,4 +47,8 @@ module _ {side : Side} (curve : Hardens side) {g : ℕ} {x a y b : Frac} (p : si
       (λ d ((_, _, i), ((_, _, j), ((_, _, k), ((_, _, r), ((_, _, s), _))))).
       let w = is-whole (pos g) (i .some) in
       is-le s (is-add i w) .1
-      (omega (arith, is-le (is-sub j r) (is-sub k s) .0 (accumulated-mono curve p (≤F-of-<F moves-on)), is-le (is-add k r) (is-add (is-add j i) w) .0 (f .most))))
+      (omega (
+        arith,
+        is-le (is-sub j r) (is-sub k s) .0 (accumulated-mono curve p (≤F-of-<F moves-on)),
+        is-le (is-add k r) (is-add (is-add j i) w) .0 (f .most),
+      )))

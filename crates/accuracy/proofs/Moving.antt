@@ -42,7 +42,8 @@ exact-flows {side} curve {x} {a} p h =
     b : Frac
     b = flowed side x a
 
-module _ {side : Side} (curve : Hardens side) {limit : ℕ → ℕ} (floor : (a : ℕ) → LimitRounded side a (limit a)) (A m : ℕ) (p : side .yield ≤F whole (pos A)) where
+module _ {side : Side} (curve : Hardens side) {limit : ℕ → ℕ} (floor : (a : ℕ) → LimitRounded side a (limit a)) (A m : ℕ)
+    (p : side .yield ≤F whole (pos A)) where
   stored-flows : (e : ℕ) → limit A + e ≡ m → 0 < e
       → Flows side 1 (whole (pos m)) (whole (pos A)) (whole (pos (limit (A + e)))) (whole (pos (A + e)))
   stored-flows e h l =
@@ -68,10 +69,12 @@ module _ {side : Side} (curve : Hardens side) {limit : ℕ → ℕ} (floor : (a 
       Move side (flow-count (stored .yielded)) (whole (pos m)) (whole (pos A)) (whole (pos (stored .magnitude))) (whole (pos (stored .abscissa)))
   unfolding sideStored
   stored-move =
-      cond-cases (λ (r : SideStored). Move side (flow-count (r .yielded)) (whole (pos m)) (whole (pos A)) (whole (pos (r .magnitude))) (whole (pos (r .abscissa))))
+      cond-cases (λ (r : SideStored). Move side (flow-count (r .yielded)) (whole (pos m)) (whole (pos A)) (whole (pos (r .magnitude)))
+      (whole (pos (r .abscissa))))
       (leb m (limit A)) _ _
       (λ t. inl (record {
-        within = ≤F-trans (is-le (is-whole-one (pos m)) (is-whole-one (pos (limit A))) .1 (omega (arith, leb-true m (limit A) t))) (floor A .floor .below);
+        within = ≤F-trans (is-le (is-whole-one (pos m)) (is-whole-one (pos (limit A))) .1 (omega (arith, leb-true m (limit A) t)))
+            (floor A .floor .below);
         magnitude = ≈F-refl (whole (pos m));
         abscissa = ≈F-refl (whole (pos A));
       }))

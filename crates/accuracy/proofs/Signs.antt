@@ -25,7 +25,8 @@ signs x y = at-common (x ∷ y ∷ []) (λ d ((p, n, i), ((q, m, j), _)). go p n
     go p n q m d i j (yes h) (yes l) =
         inl (record {
           magnitudes = λ {k} w. is-within k (is-abs-up i h) (is-abs-up j l) .1 (is-within k i j .0 w);
-          back = λ {k} {u} {v} w. at-common (u ∷ v ∷ []) (λ e ((_, _, a), ((_, _, b), _)). is-within k (is-signed-up i h a) (is-signed-up j l b) .1 (is-within k a b .0 w));
+          back = λ {k} {u} {v} w. at-common (u ∷ v ∷ [])
+              (λ e ((_, _, a), ((_, _, b), _)). is-within k (is-signed-up i h a) (is-signed-up j l b) .1 (is-within k a b .0 w));
         })
     go p n q m d i j (no h) (no l) =
         let below : p < n = omega arith in
@@ -43,7 +44,8 @@ signs x y = at-common (x ∷ y ∷ []) (λ d ((p, n, i), ((q, m, j), _)). go p n
     go p n q m d i j (yes h) (no l) =
         let below : q < m = omega arith in
         inr (record {
-          magnitudes = λ {k} w. is-le (is-add (is-abs-up i h) (is-abs-dn j below)) (is-whole (pos k) (i .some)) .1 (omega (arith, is-within k i j .0 w));
+          magnitudes = λ {k} w. is-le (is-add (is-abs-up i h) (is-abs-dn j below)) (is-whole (pos k) (i .some)) .1
+              (omega (arith, is-within k i j .0 w));
           back = λ {k} {u} {v} f g w.
               at-common (u ∷ v ∷ [])
               (λ e ((_, _, a), ((_, _, b), _)).
@@ -56,7 +58,8 @@ signs x y = at-common (x ∷ y ∷ []) (λ d ((p, n, i), ((q, m, j), _)). go p n
     go p n q m d i j (no h) (yes l) =
         let below : p < n = omega arith in
         inr (record {
-          magnitudes = λ {k} w. is-le (is-add (is-abs-dn i below) (is-abs-up j l)) (is-whole (pos k) (i .some)) .1 (omega (arith, is-within k i j .0 w));
+          magnitudes = λ {k} w. is-le (is-add (is-abs-dn i below) (is-abs-up j l)) (is-whole (pos k) (i .some)) .1
+              (omega (arith, is-within k i j .0 w));
           back = λ {k} {u} {v} f g w.
               at-common (u ∷ v ∷ [])
               (λ e ((_, _, a), ((_, _, b), _)).

@@ -10,7 +10,8 @@ use Rattle.accuracy.specs.Close.{LimitClose, IsotropicClose, KinematicCl
 pub limit-starts : (side : Side) (A : ℕ) → side .yield ≤F whole (pos A) → LimitClose side 0 A (whole (pos A))
 limit-starts side A p = record { past = p; exact-past = p; close = within-none (≈F-refl (side .limit (whole (pos A)))) }
 
-pub isotropic-starts : (side : Side) (stress : ℤ) (A : ℕ) → side .yield ≤F whole (pos A) → IsotropicClose side 0 stress A (whole stress) (whole (pos A))
+pub isotropic-starts : (side : Side) (stress : ℤ) (A : ℕ) → side .yield ≤F whole (pos A) → IsotropicClose side 0 stress A (whole stress)
+    (whole (pos A))
 isotropic-starts side stress A p = record { stress-close = within-none (≈F-refl (whole stress)); limit-close = limit-starts side A p }
 
 pub kinematic-starts : (stress X : ℤ) → KinematicClose 0 stress X (whole stress) (whole X)

@@ -49,7 +49,8 @@ module _ {tension compression : Side} (curve : Hardens tension) (curve′ : Hard
         is-lt (is-whole (pos 0) (q .some)) r′ .0 (limit-positive curve′ (s .compression-holds .past)),
       ))
 
-  module _ {trial A B q A′ B′ q′ A″ B″ : Frac} (s : Asymmetric tension compression trial A B q A′ B′) (s′ : Asymmetric tension compression trial A B q′ A″ B″) where
+  module _ {trial A B q A′ B′ q′ A″ B″ : Frac} (s : Asymmetric tension compression trial A B q A′ B′)
+      (s′ : Asymmetric tension compression trial A B q′ A″ B″) where
     -- Their stress, tension strain and compression strain come to one total, so no one of the three differs alone.
     all-same : q ≤F q′ → accumulated tension A′ ≤F accumulated tension A″ → accumulated compression B″ ≤F accumulated compression B′
         → (q′ ≤F q) × (accumulated tension A″ ≤F accumulated tension A′)
@@ -71,13 +72,15 @@ module _ {tension compression : Side} (curve : Hardens tension) (curve′ : Hard
         (all-same (≤F-of-<F l) (≤F-of-not-<F (λ h. <F-not-≤F l (more-strain-more-stress curve (s .tension-holds) (s′ .tension-holds) h)))
         (≤F-of-not-<F (λ h. <F-not-≤F l (negated-order (more-strain-more-stress curve′ (s′ .compression-holds) (s .compression-holds) h)))) .0)
 
-  no-more-tension : {trial A B q A′ B′ q′ A″ B″ : Frac} → Asymmetric tension compression trial A B q A′ B′ → Asymmetric tension compression trial A B q′ A″ B″
+  no-more-tension : {trial A B q A′ B′ q′ A″ B″ : Frac} → Asymmetric tension compression trial A B q A′ B′
+      → Asymmetric tension compression trial A B q′ A″ B″
       → q′ ≤F q → ¬ (accumulated tension A″ <F accumulated tension A′)
   no-more-tension s s′ e l =
       let still = ≤F-of-not-<F (at-most-one s (≤F-<F-trans (s′ .tension-holds .keeps) l)) in
       <F-not-≤F l (all-same s′ s e (≤F-of-<F l) (≤F-trans still (s′ .compression-holds .keeps)) .1)
 
-  same-tension : {trial A B q A′ B′ q′ A″ B″ : Frac} → Asymmetric tension compression trial A B q A′ B′ → Asymmetric tension compression trial A B q′ A″ B″
+  same-tension : {trial A B q A′ B′ q′ A″ B″ : Frac} → Asymmetric tension compression trial A B q A′ B′
+      → Asymmetric tension compression trial A B q′ A″ B″
       → (q ≈F q′) × (A′ ≈F A″)
   same-tension s s′ =
       let stress = ≤F-antisym (≤F-of-not-<F (no-less-stress s′ s)) (≤F-of-not-<F (no-less-stress s s′)) in (
@@ -87,7 +90,8 @@ module _ {tension compression : Side} (curve : Hardens tension) (curve′ : Hard
       )
 
   -- With no strain in compression the tension side alone carries the trial.
-  pub tension-alone : {trial A B q A′ B′ : Frac} → Asymmetric tension compression trial A B q A′ B′ → ¬ (accumulated compression B <F accumulated compression B′)
+  pub tension-alone : {trial A B q A′ B′ : Frac} → Asymmetric tension compression trial A B q A′ B′
+      → ¬ (accumulated compression B <F accumulated compression B′)
       → trial ≈F (q +F (accumulated tension A′ -F accumulated tension A))
   tension-alone {trial} {A} {B} {q} {A′} {B′} s h =
       at-common (trial ∷ q ∷ accumulated tension A ∷ accumulated tension A′ ∷ accumulated compression B ∷ accumulated compression B′ ∷ [])
@@ -124,7 +128,8 @@ module _ {tension compression : Side} (curve : Hardens tension) (curve′ : Hard
           ))
 
   -- The trial stays at or below both limits, or passes that of tension.
-  pub asymmetric-rests : {trial A B : Frac} → tension .yield ≤F A → compression .yield ≤F B → trial ≤F tension .limit A → negF trial ≤F compression .limit B
+  pub asymmetric-rests : {trial A B : Frac} → tension .yield ≤F A → compression .yield ≤F B → trial ≤F tension .limit A
+      → negF trial ≤F compression .limit B
       → Asymmetric tension compression trial A B trial A B
   asymmetric-rests {trial} {A} {B} p p′ h h′ =
       record {
@@ -144,7 +149,8 @@ module _ {tension compression : Side} (curve : Hardens tension) (curve′ : Hard
         plastic =
             at-common (trial ∷ R′ ∷ accumulated tension A ∷ accumulated tension A′ ∷ accumulated compression B ∷ [])
             (λ d ((_, _, t), ((_, _, r), ((_, _, a), ((_, _, a′), ((_, _, b), _))))).
-            is-eq (is-sub t r) (is-sub (is-sub a′ a) (is-sub b b)) .1 (omega (arith, is-eq t (is-add r (is-sub a′ a)) .0 (flow-balances curve trial A))));
+            is-eq (is-sub t r) (is-sub (is-sub a′ a) (is-sub b b)) .1
+            (omega (arith, is-eq t (is-add r (is-sub a′ a)) .0 (flow-balances curve trial A))));
       }
     where
       A′ : Frac
@@ -161,7 +167,11 @@ module _ {tension compression : Side} (curve : Hardens tension) (curve′ : Hard
           at-common (tension .limit (flowed tension trial A) ∷ compression .limit B ∷ [])
           (λ d ((_, _, r), ((_, _, r′), _)).
           is-le (is-neg r) r′ .1
-          (omega (arith, is-lt (is-whole (pos 0) (r .some)) r .0 (limit-positive curve (on .past)), is-lt (is-whole (pos 0) (r .some)) r′ .0 (limit-positive curve′ p′))))
+          (omega (
+            arith,
+            is-lt (is-whole (pos 0) (r .some)) r .0 (limit-positive curve (on .past)),
+            is-lt (is-whole (pos 0) (r .some)) r′ .0 (limit-positive curve′ p′),
+          )))
 
 -- The conditions ask only for the trial's number, whatever its denominator.
 asymmetric-same : {tension compression : Side} {trial trial′ A B stress A′ B′ : Frac} → trial ≈F trial′

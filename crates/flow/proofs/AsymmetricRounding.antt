@@ -26,7 +26,10 @@ tension-rounded : {tension compression : Side} → Hardens tension → Hardens c
     × ¬ (accumulated compression (whole (pos B)) <F accumulated compression B′)
 tension-rounded {tension} {compression} curve curve′ floor A B m p p′ {q} {A′} {B′} s = (
   side-rounded curve floor p m (s .tension-holds) (tension-alone curve curve′ s stays),
-  record { grown = λ g. absurd (stays g); still = λ g. accumulated-injective curve′ (s .compression-holds .past) p′ (≤F-antisym g (s .compression-holds .keeps)) },
+  record {
+    grown = λ g. absurd (stays g);
+    still = λ g. accumulated-injective curve′ (s .compression-holds .past) p′ (≤F-antisym g (s .compression-holds .keeps));
+  },
   stays,
 )
   where
@@ -89,7 +92,8 @@ asymmetric-rounded-unique {tension} {compression} {A} {B} {q} {A′} {B′} {r} 
     same′ : b ≡ b′
     same′ = abscissa-unique (s .compression-abscissa) (s′ .compression-abscissa)
 
-    still : accumulated tension A′ ≤F accumulated tension (whole (pos A)) → accumulated compression B′ ≤F accumulated compression (whole (pos B)) → r ≡ r′
+    still : accumulated tension A′ ≤F accumulated tension (whole (pos A)) → accumulated compression B′ ≤F accumulated compression
+        (whole (pos B)) → r ≡ r′
     still l l′ = whole-eq r r′ (≈F-trans (≈F-sym (s .still l l′)) (s′ .still l l′))
 
     tension-grown : accumulated tension (whole (pos A)) <F accumulated tension A′ → r ≡ r′

@@ -14,16 +14,19 @@ use Rattle.flow.specs.Stored.{sideStored, isotropicStored}
 use Rattle.flow.proofs.Isotropic.{magnitudes-balance, sign-of-trial}
 use Rattle.flow.proofs.SideRounding.{SideRounded, side-rounded, abscissa-unique, limit-unique}
 
-pub isotropic-rounded : {side : Side} → Hardens side → {limit : ℕ → ℕ} → ((a : ℕ) → LimitRounded side a (limit a)) → {A : ℕ} → side .yield ≤F whole (pos A)
+pub isotropic-rounded : {side : Side} → Hardens side → {limit : ℕ → ℕ} → ((a : ℕ) → LimitRounded side a (limit a)) → {A : ℕ}
+    → side .yield ≤F whole (pos A)
     → (trial : ℤ) {q B : Frac} → Isotropic side (whole trial) (whole (pos A)) q B
     → let stored = isotropicStored limit trial A in
-    IsotropicRounded side trial A q B (stored .stress) (stored .abscissa) × ((stored .yielded ≡ true) ↔ (accumulated side (whole (pos A)) <F accumulated side B))
+    IsotropicRounded side trial A q B (stored .stress) (stored .abscissa) ×
+    ((stored .yielded ≡ true) ↔ (accumulated side (whole (pos A)) <F accumulated side B))
 unfolding isotropicStored
 isotropic-rounded {side} curve {limit} floor {A} p trial {q} {B} s = (
   record {
     abscissa = r .abscissa;
     grown = λ g. (sideStored limit (natAbs trial) A .magnitude, r .grown g, refl);
-    still = λ g. ≈F-trans (sign-of-trial s) (rw (← whole-signed trial (pos (sideStored limit (natAbs trial) A .magnitude))) (signed-same (≈F-refl (whole trial)) (r .still g)));
+    still = λ g. ≈F-trans (sign-of-trial s)
+        (rw (← whole-signed trial (pos (sideStored limit (natAbs trial) A .magnitude))) (signed-same (≈F-refl (whole trial)) (r .still g)));
   },
   r .yields,
 )
@@ -34,7 +37,8 @@ isotropic-rounded {side} curve {limit} floor {A} p trial {q} {B} s = (
 -- The rounding of a candidate is one stress and one abscissa.
 pub isotropic-rounded-unique : {side : Side} {trial : ℤ} {A : ℕ} {q B : Frac} {r r′ : ℤ} {a a′ : ℕ}
     → IsotropicRounded side trial A q B r a → IsotropicRounded side trial A q B r′ a′ → (r ≡ r′) × (a ≡ a′)
-isotropic-rounded-unique {side} {trial} {A} {q} {B} {r} {r′} {a} {a′} s s′ = (⊎-elim still grown (≤F-or-<F (accumulated side B) (accumulated side (whole (pos A)))), same)
+isotropic-rounded-unique {side} {trial} {A} {q} {B} {r} {r′} {a} {a′} s s′ =
+    (⊎-elim still grown (≤F-or-<F (accumulated side B) (accumulated side (whole (pos A)))), same)
   where
     same : a ≡ a′
     same = abscissa-unique (s .abscissa) (s′ .abscissa)

@@ -31,7 +31,8 @@ flat-hardens {yield} h =
       positive = h;
       starts = ≈F-refl yield;
       rises = λ p l. ≤F-refl yield;
-      gentle = λ {x} {y} p l. at-common (yield ∷ x ∷ y ∷ []) (λ d ((_, _, r), ((_, _, i), ((_, _, j), _))). is-lt (is-sub i r) (is-sub j r) .1 (omega (arith, is-lt i j .0 l)));
+      gentle = λ {x} {y} p l. at-common (yield ∷ x ∷ y ∷ [])
+          (λ d ((_, _, r), ((_, _, i), ((_, _, j), _))). is-lt (is-sub i r) (is-sub j r) .1 (omega (arith, is-lt i j .0 l)));
     }
 
 -- On it the plastic strain grows by what the abscissa does.
@@ -41,8 +42,12 @@ module _ (yield w : Frac) where
 
   flat-grows : (accumulated (flat yield) yield <F accumulated (flat yield) (yield +F w)) ↔ (whole (pos 0) <F w)
   flat-grows = (
-    λ l. at-common (yield ∷ w ∷ []) (λ d ((_, _, r), ((_, _, i), _)). is-lt (is-whole (pos 0) (r .some)) i .1 (omega (arith, is-lt (is-sub r r) (is-sub (is-add r i) r) .0 l))),
-    λ l. at-common (yield ∷ w ∷ []) (λ d ((_, _, r), ((_, _, i), _)). is-lt (is-sub r r) (is-sub (is-add r i) r) .1 (omega (arith, is-lt (is-whole (pos 0) (r .some)) i .0 l))),
+    λ l. at-common (yield ∷ w ∷ [])
+        (λ d ((_, _, r), ((_, _, i), _)). is-lt (is-whole (pos 0) (r .some)) i .1
+        (omega (arith, is-lt (is-sub r r) (is-sub (is-add r i) r) .0 l))),
+    λ l. at-common (yield ∷ w ∷ [])
+        (λ d ((_, _, r), ((_, _, i), _)). is-lt (is-sub r r) (is-sub (is-add r i) r) .1
+        (omega (arith, is-lt (is-whole (pos 0) (r .some)) i .0 l))),
   )
 
   flat-keeps : whole (pos 0) ≤F w → (yield ≤F (yield +F w)) × (accumulated (flat yield) yield ≤F accumulated (flat yield) (yield +F w))
@@ -59,7 +64,12 @@ relative-change t {E} {k} h e trial X stress X′ c =
     at-common (trial ∷ X ∷ stress ∷ X′ ∷ [])
     (λ d ((a, b, i), ((_, _, x), ((a′, b′, q), ((_, _, x′), _)))).
     is-eq (is-sub (is-sub (is-scale k h i) (is-scale k h x)) (is-sub (is-scale k h q) (is-scale k h x′))) (is-times E k h (is-sub i q)) .1
-    (omega (arith, is-eq (is-sub (is-scale k h x′) (is-scale k h x)) (is-times t k h (is-sub i q)) .0 c, ap (λ (n : ℕ). n * (a + b′)) e, ap (λ (n : ℕ). n * (b + a′)) e)))
+    (omega (
+      arith,
+      is-eq (is-sub (is-scale k h x′) (is-scale k h x)) (is-times t k h (is-sub i q)) .0 c,
+      ap (λ (n : ℕ). n * (a + b′)) e,
+      ap (λ (n : ℕ). n * (b + a′)) e,
+    )))
 
 -- Past the radius the stress lies k / E of the excess beyond the new one, on the side of the trial.
 stress-rest : (t k : ℕ) {E : ℕ} (h : 0 < E) → k + t ≡ E → (yield trial X : Frac)
@@ -74,18 +84,21 @@ stress-rest t k {E} h e yield trial X =
     go a b x x′ r r′ d i j l (yes m) =
         let u = is-sub i j in
         let excess = is-sub (is-abs-up u m) l in
-        is-eq (is-sub (is-scale E h i) (is-add (is-add (is-scale E h j) (is-signed-up u m (is-times t E h excess))) (is-signed-up u m (is-scale E h l))))
+        is-eq (is-sub (is-scale E h i) (is-add (is-add (is-scale E h j) (is-signed-up u m (is-times t E h excess)))
+        (is-signed-up u m (is-scale E h l))))
         (is-signed-up u m (is-times k E h excess)) .1
         (omega (arith, ap (λ (n : ℕ). n * (a + x′ + r′)) e, ap (λ (n : ℕ). n * (b + x + r)) e))
     go a b x x′ r r′ d i j l (no m) =
         let u = is-sub i j in
         let below : a + x′ < b + x = omega arith in
         let excess = is-sub (is-abs-dn u below) l in
-        is-eq (is-sub (is-scale E h i) (is-add (is-add (is-scale E h j) (is-signed-dn u below (is-times t E h excess))) (is-signed-dn u below (is-scale E h l))))
+        is-eq (is-sub (is-scale E h i) (is-add (is-add (is-scale E h j) (is-signed-dn u below (is-times t E h excess)))
+        (is-signed-dn u below (is-scale E h l))))
         (is-signed-dn u below (is-times k E h excess)) .1
         (omega (arith, ap (λ (n : ℕ). n * (b + x + r′)) e, ap (λ (n : ℕ). n * (a + x′ + r)) e))
 
-module _ {E tangent : ℕ} {below : tangent < E} {yield trial X stress X′ growth : Frac} (s : Kinematic E tangent below yield trial X stress X′ growth) where
+module _ {E tangent : ℕ} {below : tangent < E} {yield trial X stress X′ growth : Frac}
+    (s : Kinematic E tangent below yield trial X stress X′ growth) where
   -- The growth about the centre: E / (E - tangent) times that of p.
   abbrev wider : Frac
   wider = timesF growth E (E - tangent) (sub-pos-iff-lt .1 below)
@@ -135,7 +148,8 @@ module _ {E tangent : ℕ} {below : tangent < E} {yield : Frac} (positive : whol
       same = one-side-unique (flat-hardens positive) (on-flat s) (on-flat s′) (≈F-trans (≈F-sym (balances s)) (balances s′))
 
       growths : growth ≈F growth′
-      growths = times-injective growth growth′ E (E - tangent) (sub-pos-iff-lt .1 below) (omega arith) (add-injective yield (wider s) (wider s′) (same .1))
+      growths = times-injective growth growth′ E (E - tangent) (sub-pos-iff-lt .1 below) (omega arith)
+          (add-injective yield (wider s) (wider s′) (same .1))
 
       relative : (stress -F X′) ≈F (stress′ -F X″)
       relative = ≈F-trans (side-of-trial s) (≈F-trans (signed-same (≈F-refl (trial -F X)) (same .0)) (≈F-sym (side-of-trial s′)))
@@ -151,9 +165,12 @@ module _ {E tangent : ℕ} {below : tangent < E} {yield : Frac} (positive : whol
       record {
         inside = h;
         keeps = abs-not-negative (trial -F trial);
-        at-limit = λ l. absurd (at-common (trial ∷ []) (λ d ((_, _, t), _). omega (arith, is-lt (is-whole (pos 0) (t .some)) (is-abs (is-sub t t)) .0 l)));
+        at-limit = λ l. absurd (at-common (trial ∷ [])
+            (λ d ((_, _, t), _). omega (arith, is-lt (is-whole (pos 0) (t .some)) (is-abs (is-sub t t)) .0 l)));
         plastic = ≈F-trans (nought-signed (trial -F X) trial trial) (signed-same (≈F-refl (trial -F X)) nought);
-        centre = at-common (trial ∷ X ∷ []) (λ d ((_, _, t), ((_, _, x), _)). is-eq (is-sub (is-scale (E - tangent) k x) (is-scale (E - tangent) k x)) (is-times tangent (E - tangent) k (is-sub t t)) .1 (omega arith));
+        centre = at-common (trial ∷ X ∷ [])
+            (λ d ((_, _, t), ((_, _, x), _)). is-eq (is-sub (is-scale (E - tangent) k x) (is-scale (E - tangent) k x))
+            (is-times tangent (E - tangent) k (is-sub t t)) .1 (omega arith));
       }
     where
       k : 0 < E - tangent
@@ -205,7 +222,8 @@ module _ {E tangent : ℕ} {below : tangent < E} {yield : Frac} (positive : whol
       rest = stress-rest tangent (E - tangent) h (omega arith) yield trial X
 
       excess : whole (pos 0) ≤F e
-      excess = at-common (absF v ∷ yield ∷ []) (λ d ((_, _, i), ((_, _, r), _)). is-le (is-whole (pos 0) (i .some)) (is-sub i r) .1 (omega (arith, is-lt r i .0 l)))
+      excess = at-common (absF v ∷ yield ∷ [])
+          (λ d ((_, _, i), ((_, _, r), _)). is-le (is-whole (pos 0) (i .some)) (is-sub i r) .1 (omega (arith, is-lt r i .0 l)))
 
       magnitude : absF (trial -F stress) ≈F w
       magnitude = ≈F-trans (abs-same rest) (abs-signed v (times-not-negative e (E - tangent) E h excess))

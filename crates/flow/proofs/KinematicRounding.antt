@@ -49,7 +49,8 @@ module _ {E tangent : ℕ} {below : tangent < E} (E-pos : 0 < E) {yield : ℕ} (
       flowed-centre = kinematic-unique positive s (kinematic-flows positive E-pos (passes .1 l)) .1
 
       excess : e ≈F whole (pos (natAbs (trial -ℤ X) - yield))
-      excess = is-eq (is-sub (is-same (≈F-sym distance) (is-whole-one (pos (natAbs (trial -ℤ X))))) (is-whole-one (pos yield))) (is-whole-one (pos (natAbs (trial -ℤ X) - yield))) .1 (omega arith)
+      excess = is-eq (is-sub (is-same (≈F-sym distance) (is-whole-one (pos (natAbs (trial -ℤ X))))) (is-whole-one (pos yield)))
+          (is-whole-one (pos (natAbs (trial -ℤ X) - yield))) .1 (omega arith)
 
       zero : whole (pos 0) ≤F whole (pos (natAbs (trial -ℤ X) - yield))
       zero = is-le (is-whole-one (pos 0)) (is-whole-one (pos (natAbs (trial -ℤ X) - yield))) .1 (omega arith)
@@ -88,7 +89,8 @@ pub kinematic-rounded-unique : {yield : ℕ} {trial X : ℤ} {q X′ growth : Fr
 kinematic-rounded-unique {yield} {trial} {X} {q} {X′} {growth} {r} {r′} {c} {c′} s s′ = ⊎-elim still grown (≤F-or-<F growth (whole (pos 0)))
   where
     still : growth ≤F whole (pos 0) → (r ≡ r′) × (c ≡ c′)
-    still l = let (x, t) = s .still l in let (x′, t′) = s′ .still l in (whole-eq r r′ (≈F-trans (≈F-sym t) t′), whole-eq c c′ (≈F-trans (≈F-sym x) x′))
+    still l = let (x, t) = s .still l in let (x′, t′) = s′ .still l in
+        (whole-eq r r′ (≈F-trans (≈F-sym t) t′), whole-eq c c′ (≈F-trans (≈F-sym x) x′))
 
     grown : whole (pos 0) <F growth → (r ≡ r′) × (c ≡ c′)
     grown l = let (m, f, e, t) = s .grown l in let (m′, f′, e′, t′) = s′ .grown l in

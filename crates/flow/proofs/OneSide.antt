@@ -65,7 +65,8 @@ module _ {side : Side} (curve : Hardens side) where
     where
       passes : accumulated side A <F accumulated side B → side .limit A <F trial
       passes l =
-          let before : side .limit A ≤F q = ≤F-trans (curve .rises p (≤F-of-<F (accumulated-reflects (h .past) l))) (≤F-of-≈F (≈F-sym (h .at-limit l))) in
+          let before : side .limit A ≤F q = ≤F-trans (curve .rises p (≤F-of-<F (accumulated-reflects (h .past) l)))
+          (≤F-of-≈F (≈F-sym (h .at-limit l))) in
           at-common (trial ∷ q ∷ side .limit A ∷ accumulated side A ∷ accumulated side B ∷ [])
           (λ d ((_, _, t), ((_, _, i), ((_, _, m), ((_, _, a), ((_, _, b), _))))).
           is-lt m t .1 (omega (arith, is-le m i .0 before, is-lt a b .0 l, is-eq t (is-add i (is-sub b a)) .0 e)))
@@ -82,7 +83,12 @@ module _ {side : Side} (curve : Hardens side) where
 
   -- At or below the limit the side may stay where it is.
   pub rests : {A q : Frac} → side .yield ≤F A → q ≤F side .limit A → OnSide side A q A
-  rests {A} p h = record { past = p; inside = h; keeps = ≤F-refl (accumulated side A); at-limit = λ l. absurd (<F-not-≤F l (≤F-refl (accumulated side A))) }
+  rests {A} p h = record {
+    past = p;
+    inside = h;
+    keeps = ≤F-refl (accumulated side A);
+    at-limit = λ l. absurd (<F-not-≤F l (≤F-refl (accumulated side A)));
+  }
 
   -- Past the limit it flows by the excess.
   pub flows : {trial A : Frac} → side .yield ≤F A → side .limit A <F trial

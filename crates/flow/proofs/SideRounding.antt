@@ -47,8 +47,10 @@ pub record SideRounded (side : Side) (A : ℕ) (q B : Frac) (stored : SideStored
   pub yields : (stored .yielded ≡ true) ↔ (accumulated side (whole (pos A)) <F accumulated side B)
 
 -- On one side, from a whole abscissa and a trial of whole magnitude.
-module _ {side : Side} (curve : Hardens side) {limit : ℕ → ℕ} (floor : (a : ℕ) → LimitRounded side a (limit a)) {A : ℕ} (p : side .yield ≤F whole (pos A))
-    (m : ℕ) {q B : Frac} (h : OnSide side (whole (pos A)) q B) (e : whole (pos m) ≈F (q +F (accumulated side B -F accumulated side (whole (pos A))))) where
+module _ {side : Side} (curve : Hardens side) {limit : ℕ → ℕ} (floor : (a : ℕ) → LimitRounded side a (limit a)) {A : ℕ}
+    (p : side .yield ≤F whole (pos A))
+    (m : ℕ) {q B : Frac} (h : OnSide side (whole (pos A)) q B)
+    (e : whole (pos m) ≈F (q +F (accumulated side B -F accumulated side (whole (pos A))))) where
   -- The limit rounded down decides the same.
   grows-past-floor : (accumulated side (whole (pos A)) <F accumulated side B) ↔ (limit A < m)
   grows-past-floor = Iff·trans (grows-past-limit curve p h e) (floor-passed (floor A .floor) m)
@@ -96,4 +98,5 @@ abscissa-unique {side} {A} {B} {a} {a′} r r′ =
     (λ l. ceiling-unique (pos a) (pos a′) (≈F-refl B) (r .grown l) (r′ .grown l)) (≤F-or-<F (accumulated side B) (accumulated side (whole (pos A)))))
 
 pub limit-unique : {side : Side} {a R R′ : ℕ} → LimitRounded side a R → LimitRounded side a R′ → R ≡ R′
-limit-unique {side} {a} {R} {R′} r r′ = pos-injective R R′ (floor-unique (pos R) (pos R′) (≈F-refl (side .limit (whole (pos a)))) (r .floor) (r′ .floor))
+limit-unique {side} {a} {R} {R′} r r′ = pos-injective R R′
+    (floor-unique (pos R) (pos R′) (≈F-refl (side .limit (whole (pos a)))) (r .floor) (r′ .floor))

@@ -136,7 +136,8 @@ module _ {x y : Frac} {k : ℕ} (h : Within k x y) where
   pub within-weaken : (g : ℕ) → Within (k + g) x y
   within-weaken g =
       at-common (x ∷ y ∷ [])
-      (λ d ((_, _, i), ((_, _, j), _)). let near = is-within k i j .0 h in is-within (k + g) i j .1 (record { above = omega arith; below = omega arith }))
+      (λ d ((_, _, i), ((_, _, j), _)). let near = is-within k i j .0 h in is-within (k + g) i j .1
+      (record { above = omega arith; below = omega arith }))
 
   pub within-same : {x′ y′ : Frac} → x ≈F x′ → y ≈F y′ → Within k x′ y′
   within-same e f =

@@ -57,7 +57,8 @@ is-add {x} {y} {p} {n} {q} {m} {d} i j =
       same =
           add-core (x .den) (y .den) d (up a) (dn a) (up b) (dn b) _ _ p n q m
           (i .same) (j .same)
-          (rw (← times-parts (y .den) a .0, ← times-parts (y .den) a .1, ← times-parts (x .den) b .0, ← times-parts (x .den) b .1) (add-parts (pos (y .den) *ℤ a) (pos (x .den) *ℤ b)));
+          (rw (← times-parts (y .den) a .0, ← times-parts (y .den) a .1, ← times-parts (x .den) b .0, ← times-parts (x .den) b .1)
+          (add-parts (pos (y .den) *ℤ a) (pos (x .den) *ℤ b)));
     }
   where
     add-core : (dx dy d ua da ub db u v p n q m : ℕ) → dx * p + d * da ≡ dx * n + d * ua → dy * q + d * db ≡ dy * m + d * ub
@@ -88,12 +89,20 @@ product-of-differences a b c d a′ b′ c′ d′ e f =
     omega (arith, ap (λ (k : ℕ). k * c) e, ap (λ (k : ℕ). k * d) e, ap (λ (k : ℕ). a′ * k) f, ap (λ (k : ℕ). b′ * k) f)
 
 product-core : (dx dy d e p n q m a b a′ b′ u v : ℕ)
-    → dx * p * (dy * q) + dx * n * (dy * m) + (d * a * (e * b′) + d * b * (e * a′)) ≡ dx * p * (dy * m) + dx * n * (dy * q) + (d * a * (e * a′) + d * b * (e * b′))
+    → dx * p * (dy * q) + dx * n * (dy * m) + (d * a * (e * b′) + d * b * (e * a′))
+    ≡ dx * p * (dy * m) + dx * n * (dy * q) + (d * a * (e * a′) + d * b * (e * b′))
     → u + (a * b′ + b * a′) ≡ a * a′ + b * b′ + v → dx * dy * (p * q + n * m) + d * e * v ≡ dx * dy * (p * m + n * q) + d * e * u
 product-core dx dy d e p n q m a b a′ b′ u v f g =
     let h : d * e * u + (d * a * (e * b′) + d * b * (e * a′)) ≡ d * a * (e * a′) + d * b * (e * b′) + d * e * v =
     simp (mul-add, mul-mul-mul-comm d e) at (ap (λ (k : ℕ). d * e * k) g) in
-    rw (mul-add (dx * dy) (p * q) (n * m), mul-add (dx * dy) (p * m) (n * q), mul-mul-mul-comm dx dy p q, mul-mul-mul-comm dx dy n m, mul-mul-mul-comm dx dy p m, mul-mul-mul-comm dx dy n q)
+    rw (
+      mul-add (dx * dy) (p * q) (n * m),
+      mul-add (dx * dy) (p * m) (n * q),
+      mul-mul-mul-comm dx dy p q,
+      mul-mul-mul-comm dx dy n m,
+      mul-mul-mul-comm dx dy p m,
+      mul-mul-mul-comm dx dy n q,
+    )
     (omega arith)
 
 pub is-mul : {x y : Frac} {p n d q m e : ℕ} → Is x p n d → Is y q m e → Is (x *F y) (p * q + n * m) (p * m + n * q) (d * e)
@@ -103,7 +112,8 @@ is-mul {x} {y} {p} {n} {d} {q} {m} {e} i j =
       some = mul-pos (i .some) (j .some);
       same =
           product-core (x .den) (y .den) d e p n q m (up (x .num)) (dn (x .num)) (up (y .num)) (dn (y .num)) _ _
-          (product-of-differences (x .den * p) (x .den * n) (y .den * q) (y .den * m) (d * up (x .num)) (d * dn (x .num)) (e * up (y .num)) (e * dn (y .num)) (i .same) (j .same))
+          (product-of-differences (x .den * p) (x .den * n) (y .den * q) (y .den * m) (d * up (x .num)) (d * dn (x .num)) (e * up (y .num))
+          (e * dn (y .num)) (i .same) (j .same))
           (mul-parts (x .num) (y .num));
     }
 
@@ -170,7 +180,8 @@ module _ {x y : Frac} {p n q m d : ℕ} (i : Is x p n d) (j : Is y q m d) where
   product-pos : 0 < x .den * y .den
   product-pos = mul-pos (x .den-pos) (y .den-pos)
 
-  cross-balance : d * (up (product x y) + dn (product y x)) + x .den * y .den * (q + n) ≡ d * (up (product y x) + dn (product x y)) + x .den * y .den * (p + m)
+  cross-balance : d * (up (product x y) + dn (product y x)) + x .den * y .den * (q + n)
+      ≡ d * (up (product y x) + dn (product x y)) + x .den * y .den * (p + m)
   cross-balance =
       rw (times-parts (y .den) (x .num) .0, times-parts (y .den) (x .num) .1, times-parts (x .den) (y .num) .0, times-parts (x .den) (y .num) .1)
       (balance (x .den) (y .den) d (up (x .num)) (dn (x .num)) (up (y .num)) (dn (y .num)) p n q m (i .same) (j .same))
@@ -178,19 +189,30 @@ module _ {x y : Frac} {p n q m d : ℕ} (i : Is x p n d) (j : Is y q m d) where
   pub is-le : (x ≤F y) ↔ (p + m ≤ q + n)
   is-le = (
     λ h. le-of-mul-le-mul-left {k = x .den * y .den} (omega (arith, mul-le-mul-left d (le-parts (h .cross)), cross-balance)) product-pos,
-    λ h. record { cross = le-of-parts (product x y) (product y x) (le-of-mul-le-mul-left {k = d} (omega (arith, mul-le-mul-left (x .den * y .den) h, cross-balance)) (i .some)) },
+    λ h. record {
+      cross = le-of-parts (product x y) (product y x)
+          (le-of-mul-le-mul-left {k = d} (omega (arith, mul-le-mul-left (x .den * y .den) h, cross-balance)) (i .some));
+    },
   )
 
   pub is-lt : (x <F y) ↔ (p + m < q + n)
   is-lt = (
     λ h. lt-of-mul-lt-mul-left (x .den * y .den) (omega (arith, mul-lt-mul-of-pos-left (lt-parts (h .cross)) (i .some), cross-balance)),
-    λ h. record { cross = lt-of-parts (product x y) (product y x) (lt-of-mul-lt-mul-left d (omega (arith, mul-lt-mul-of-pos-left h product-pos, cross-balance))) },
+    λ h. record {
+      cross = lt-of-parts (product x y) (product y x)
+          (lt-of-mul-lt-mul-left d (omega (arith, mul-lt-mul-of-pos-left h product-pos, cross-balance)));
+    },
   )
 
   pub is-eq : (x ≈F y) ↔ (p + m ≡ q + n)
   is-eq = (
-    λ h. eq-of-mul-eq-mul-left (x .den * y .den) product-pos (p + m) (q + n) (omega (arith, ap (λ (z : ℤ). d * up z) (h .cross), ap (λ (z : ℤ). d * dn z) (h .cross), cross-balance)),
-    λ h. record { cross = equal-parts (product x y) (product y x) (eq-of-mul-eq-mul-left d (i .some) (up (product x y) + dn (product y x)) (up (product y x) + dn (product x y)) (omega (arith, ap (λ (k : ℕ). x .den * y .den * k) h, cross-balance))) },
+    λ h. eq-of-mul-eq-mul-left (x .den * y .den) product-pos (p + m) (q + n)
+        (omega (arith, ap (λ (z : ℤ). d * up z) (h .cross), ap (λ (z : ℤ). d * dn z) (h .cross), cross-balance)),
+    λ h. record {
+      cross = equal-parts (product x y) (product y x)
+          (eq-of-mul-eq-mul-left d (i .some) (up (product x y) + dn (product y x)) (up (product y x) + dn (product x y))
+          (omega (arith, ap (λ (k : ℕ). x .den * y .den * k) h, cross-balance)));
+    },
   )
 
 -- ---- Any finite set of fractions over one denominator

@@ -68,16 +68,20 @@ leF-false x y e = <F-of-not-≤F (λ h. rw e at (h .cross .le))
 
 module _ {x y z : Frac} where
   pub ≤F-trans : x ≤F y → y ≤F z → x ≤F z
-  ≤F-trans g h = at-common (x ∷ y ∷ z ∷ []) (λ d ((_, _, i), ((_, _, j), ((_, _, k), _))). is-le i k .1 (omega (arith, is-le i j .0 g, is-le j k .0 h)))
+  ≤F-trans g h = at-common (x ∷ y ∷ z ∷ [])
+      (λ d ((_, _, i), ((_, _, j), ((_, _, k), _))). is-le i k .1 (omega (arith, is-le i j .0 g, is-le j k .0 h)))
 
   pub <F-≤F-trans : x <F y → y ≤F z → x <F z
-  <F-≤F-trans g h = at-common (x ∷ y ∷ z ∷ []) (λ d ((_, _, i), ((_, _, j), ((_, _, k), _))). is-lt i k .1 (omega (arith, is-lt i j .0 g, is-le j k .0 h)))
+  <F-≤F-trans g h = at-common (x ∷ y ∷ z ∷ [])
+      (λ d ((_, _, i), ((_, _, j), ((_, _, k), _))). is-lt i k .1 (omega (arith, is-lt i j .0 g, is-le j k .0 h)))
 
   pub ≤F-<F-trans : x ≤F y → y <F z → x <F z
-  ≤F-<F-trans g h = at-common (x ∷ y ∷ z ∷ []) (λ d ((_, _, i), ((_, _, j), ((_, _, k), _))). is-lt i k .1 (omega (arith, is-le i j .0 g, is-lt j k .0 h)))
+  ≤F-<F-trans g h = at-common (x ∷ y ∷ z ∷ [])
+      (λ d ((_, _, i), ((_, _, j), ((_, _, k), _))). is-lt i k .1 (omega (arith, is-le i j .0 g, is-lt j k .0 h)))
 
   pub ≈F-trans : x ≈F y → y ≈F z → x ≈F z
-  ≈F-trans g h = at-common (x ∷ y ∷ z ∷ []) (λ d ((_, _, i), ((_, _, j), ((_, _, k), _))). is-eq i k .1 (omega (arith, is-eq i j .0 g, is-eq j k .0 h)))
+  ≈F-trans g h = at-common (x ∷ y ∷ z ∷ [])
+      (λ d ((_, _, i), ((_, _, j), ((_, _, k), _))). is-eq i k .1 (omega (arith, is-eq i j .0 g, is-eq j k .0 h)))
 
 -- Whole numbers are compared as they were.
 pub whole-le : (y z : ℤ) → (whole y ≤F whole z) ↔ (y ≤ℤ z)

@@ -17,7 +17,11 @@ module _ {E : ℕ} {f : ℕ → ℕ} (c : Concave E f) where
       go : (τ : ℕ) × (f b + τ ≡ f (b + α)) → (τ′ : ℕ) × (f b′ + τ′ ≡ f (b′ + α′)) → f (b′ + α′) ≤ f b′ + K
       go (τ, p) (τ′, p′) =
           let falls : α * τ′ ≤ α′ * τ = omega (arith, c .flatter b α b′ α′ h k, ap (λ (n : ℕ). α′ * n) p, ap (λ (n : ℕ). α * n) p′) in
-          omega (arith, secant (E * α) τ (E * α′) τ′ K (omega (arith, c .steep b α)) (omega (arith, c .steep b′ α′)) (omega (arith, mul-le-mul-left E falls)) (omega arith) (omega arith))
+          omega (
+            arith,
+            secant (E * α) τ (E * α′) τ′ K (omega (arith, c .steep b α)) (omega (arith, c .steep b′ α′))
+                (omega (arith, mul-le-mul-left E falls)) (omega arith) (omega arith),
+          )
 
   -- The one that comes out ahead (b′ ≤ a′) is ahead in value by at most K, if it was so before and the gap grew by no more than K allows.
   pub ahead : (a b a′ b′ K : ℕ) → a ≤ a′ → b ≤ b′ → b′ ≤ a′ → E * a′ + f a + E * b ≤ E * b′ + f b + E * a + K → f a ≤ f b + K → f a′ ≤ f b′ + K

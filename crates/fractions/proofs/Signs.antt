@@ -32,10 +32,12 @@ module _ (s q : Frac) {g : Frac} (h : whole (pos 0) ≤F g) (e : (s -F q) ≈F s
     where
       go : (p n d p′ n′ u v : ℕ) → Is s p′ n′ d → Is q p n d → Is g u v d → Dec (n ≤ p) → absF s ≈F (absF q +F g)
       go p n d p′ n′ u v i j k (yes l) =
-          is-eq (is-abs i) (is-add (is-abs j) k) .1 (omega (arith, is-le (is-whole (pos 0) (i .some)) k .0 h, is-eq (is-sub i j) (is-signed-up j l k) .0 e))
+          is-eq (is-abs i) (is-add (is-abs j) k) .1
+          (omega (arith, is-le (is-whole (pos 0) (i .some)) k .0 h, is-eq (is-sub i j) (is-signed-up j l k) .0 e))
       go p n d p′ n′ u v i j k (no l) =
           let m : p < n = omega arith in
-          is-eq (is-abs i) (is-add (is-abs j) k) .1 (omega (arith, is-le (is-whole (pos 0) (i .some)) k .0 h, is-eq (is-sub i j) (is-signed-dn j m k) .0 e))
+          is-eq (is-abs i) (is-add (is-abs j) k) .1
+          (omega (arith, is-le (is-whole (pos 0) (i .some)) k .0 h, is-eq (is-sub i j) (is-signed-dn j m k) .0 e))
 
   pub like-signs-sign : q ≈F signedF s (absF q)
   like-signs-sign = at-common (s ∷ q ∷ g ∷ []) (λ d ((_, _, i), ((p, n, j), ((_, _, k), _))). go p n d _ _ _ _ i j k (decLe n p))
