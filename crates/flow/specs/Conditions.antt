@@ -7,7 +7,8 @@ use lib.IntN.{pos}
 use Rattle.fractions.specs.Fraction.{Frac, _≤F_, _<F_, _≈F_, whole, negF, _-F_, absF, signedF, timesF}
 use Rattle.flow.specs.Side.{Side, accumulated}
 
--- One side, from the abscissa A to A′, with the new stress magnitude R′ on that side.
+-- One side, from the abscissa A to A′. `stress` is the new stress as that side counts it: its magnitude in the isotropic law, in law 3 the
+-- stress on the tension side and its negation on the compression side.
 pub record OnSide (side : Side) (A stress A′ : Frac) : Type 0 where
   -- the curve starts at the yield
   pub past : side .yield ≤F A′
@@ -21,17 +22,22 @@ pub record OnSide (side : Side) (A stress A′ : Frac) : Type 0 where
 -- Isotropic (laws 0 and 1), from the trial stress and the abscissa A.
 pub record Isotropic (side : Side) (trial A stress A′ : Frac) : Type 0 where
   pub side-holds : OnSide side A (absF stress) A′
-  -- "plastic strain changes by the growth of p, with the sign of the new stress"
+  -- "plastic strain changes by the growth of p, with the sign of the new stress"; which sign nought has decides nothing, since where p
+  -- grew the magnitude is a limit, above nought
   pub plastic : (trial -F stress) ≈F signedF stress (accumulated side A′ -F accumulated side A)
 
 -- Kinematic (law 2), from the trial stress and the centre X; growth is E times the growth of p.
 -- "The same about X with fixed radius, the yield; X changes by the hardening modulus, E times tangent / (E - tangent), times the change of
 -- plastic strain."
 pub record Kinematic (E tangent : ℕ) (below : tangent < E) (yield trial X stress X′ growth : Frac) : Type 0 where
+  -- the distance from the new centre never exceeds the radius
   pub inside : absF (stress -F X′) ≤F yield
+  -- p never falls, and grows only when the distance equals the radius
   pub keeps : whole (pos 0) ≤F growth
   pub at-limit : whole (pos 0) <F growth → absF (stress -F X′) ≈F yield
+  -- plastic strain changes by the growth of p, with the sign of stress - X′
   pub plastic : (trial -F stress) ≈F signedF (stress -F X′) growth
+  -- E times the change of plastic strain, times tangent / (E - tangent)
   pub centre : (X′ -F X) ≈F timesF (trial -F stress) tangent (E - tangent) (sub-pos-iff-lt .1 below)
 
 -- Asymmetric (law 3): "tension and compression sides each with yield, tangent and abscissa, as in the isotropic law". Tension makes

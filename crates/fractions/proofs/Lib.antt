@@ -7,6 +7,5 @@ pub mod Arithmetic
 pub mod Rounded
 pub mod Secant
 pub mod Concave
-pub mod Moves
 pub mod Signs
 pub mod Cases
