@@ -1,11 +1,11 @@
 -- The magnitude of a number that lies within a range.
 use Prim.Native.Nat.{ℕ, zero, suc, _≤_}
-use mathlib.Core.Path.{_≡_}
-use mathlib.Core.Bool.{true, false≢true}
+use mathlib.Core.Path.{_≡_, refl, sym, ap, _∙_}
+use mathlib.Core.Bool.{Bool, true, _&&_, and-true, false≢true}
 use borrow.Author.Tests.{leb-true}
 use native.Mathlib.Omega.{arith}
 use lib.IntN.{ℤ, pos, negsuc, negℤ, natAbs}
-use lib.Dec.{leb}
+use lib.Dec.{leb, leb·zero, leb·suc-zero, leb·suc-suc}
 use lib.Signed.{leZ, mag}
 use Rattle.refusals.proofs.FirstLaws.{both-hold}
 use Rattle.bits.specs.Field.{withinℤ}
@@ -27,3 +27,10 @@ temperature-magnitude t e = within-magnitude 2000 20000 t e (omega arith)
 pub mag-at-most : (z : ℤ) → mag z ≤ natAbs z
 mag-at-most (pos n) = omega arith
 mag-at-most (negsuc n) = omega arith
+
+-- A number lies around zero exactly where its magnitude is not greater.
+pub around-is : (m : ℕ) (z : ℤ) → around m z ≡ leb (natAbs z) m
+around-is zero (pos n) = ap (λ (t : Bool). t && leb n 0) (leb·zero n)
+around-is (suc k) (pos n) = refl
+around-is zero (negsuc n) = sym (leb·suc-zero n)
+around-is (suc k) (negsuc n) = and-true (leb n k) ∙ sym (leb·suc-suc n k)

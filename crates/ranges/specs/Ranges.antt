@@ -51,3 +51,7 @@ mostAbscissa = 100000000000000000
 -- "above 4,096 pairs"
 abbrev pub mostPairs : ℕ
 mostPairs = 4096
+
+-- "pairs n 32, yielded pairs k 32 (n, k unsigned)": the greatest number of pairs.
+abbrev pub mostCount : ℕ
+mostCount = 4294967295

@@ -37,3 +37,6 @@ pub const MOST_ABSCISSA: i64 = 100000000000000000;
 
 // Pairs of one list.
 pub const MOST_PAIRS: usize = 4096;
+
+// Pairs that a state counts.
+pub const MOST_COUNT: u64 = 4294967295;

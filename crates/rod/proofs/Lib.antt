@@ -4,3 +4,5 @@ pub mod RangeFacts
 pub mod StateLaws
 pub mod RoundTrip
 pub mod UnusedLaws
+pub mod VariableLaws
+pub mod StepLaws

@@ -4,3 +4,5 @@ pub mod Limits
 pub mod Against
 pub mod Forecast
 pub mod Unused
+pub mod Steps
+pub mod Steady

@@ -1,29 +1,21 @@
-use Prim.Native.Nat.{ℕ}
-use mathlib.Core.Path.{_≡_, sym, ap, ap₂, _∙_}
-use mathlib.Core.Bool.{Bool, not}
+use mathlib.Core.Path.{_≡_, sym, ap, _∙_}
+use mathlib.Core.Bool.{not}
 use borrow.Author.Needs.{needs}
 use borrow.Author.Tests.{not-true, not-false}
-use lib.IntN.{ℤ, natAbs, negℤ}
-use Rattle.units.specs.Signs.{withSign}
+use lib.IntN.{natAbs, negℤ}
 use Rattle.units.specs.declared.Magnitude.{Magnitude}
-use Rattle.curve.specs.declared.Side.{Side}
 use Rattle.rod.specs.Limits.{withinLimit}
 use Rattle.rod.specs.Against.{asymmetricBelongs}
-use Rattle.rod.proofs.LimitLaws.{own-sign, other-sign}
+use Rattle.rod.proofs.LimitLaws.{own-sign, other-sign, limit-test-is}
 use Rattle.rod.proofs.against.asymmetric.Statement.{statement}
 use Rattle.rod.proofs.against.asymmetric.Tie as tie
-
--- a test against a limit, once the numbers that it was called with are known
-test-is : {r : Bool} (E : ℕ) (side : Side) {m n : Magnitude} {t u : Bool} {a b : ℕ} {z : ℤ} → r ≡ withinLimit E side (m .0) (withSign t (n .0))
-    → m .0 ≡ a → t ≡ u → n .0 ≡ b → withSign u b ≡ z → r ≡ withinLimit E side a z
-test-is E side e p q s w = e ∙ ap₂ (withinLimit E side) p (ap₂ withSign q s ∙ w)
 
 in-tension : (c : tie.After-within-limit) → let start = c .before .before .before .before .before .before .before .before .before .before .before .before .before .before in
     let a = start .args in
     c .within-limit .result ≡ withinLimit (a .sheet .modulus .0) (a .sheet .tension) (natAbs (a .rod .first .0)) (a .rod .stress .0)
 in-tension c =
     let a = c .before .before .before .before .before .before .before .before .before .before .before .before .before .before .args in
-    test-is (a .sheet .modulus .0) (a .sheet .tension) (c .within-limit .ensures) (ap (λ (m : Magnitude). m .0) (c .before .before .magnitude .ensures)) (c .before .before .before .negative .ensures) (ap (λ (m : Magnitude). m .0) (c .before .magnitude2 .ensures)) (own-sign (a .rod .stress .0))
+    limit-test-is (a .sheet .modulus .0) (a .sheet .tension) (c .within-limit .ensures) (ap (λ (m : Magnitude). m .0) (c .before .before .magnitude .ensures)) (c .before .before .before .negative .ensures) (ap (λ (m : Magnitude). m .0) (c .before .magnitude2 .ensures)) (own-sign (a .rod .stress .0))
 
 in-compression : (c : tie.After-within-limit2) → let first = c .before .before .before .before in
     let a = first .before .before .before .before .before .before .before .before .before .before .before .before .before .before .args in
@@ -31,7 +23,7 @@ in-compression : (c : tie.After-within-limit2) → let first = c .before .before
 in-compression c =
     let first = c .before .before .before .before in
     let a = first .before .before .before .before .before .before .before .before .before .before .before .before .before .before .args in
-    test-is (a .sheet .modulus .0) (a .sheet .compression) (c .within-limit2 .ensures) (ap (λ (m : Magnitude). m .0) (c .before .before .magnitude3 .ensures)) (ap not (first .before .before .before .negative .ensures)) (ap (λ (m : Magnitude). m .0) (c .before .magnitude4 .ensures)) (other-sign (a .rod .stress .0))
+    limit-test-is (a .sheet .modulus .0) (a .sheet .compression) (c .within-limit2 .ensures) (ap (λ (m : Magnitude). m .0) (c .before .before .magnitude3 .ensures)) (ap not (first .before .before .before .negative .ensures)) (ap (λ (m : Magnitude). m .0) (c .before .magnitude4 .ensures)) (other-sign (a .rod .stress .0))
 
 returns : tie.Need-returns
 unfolding asymmetricBelongs

@@ -1,0 +1,244 @@
+// One pair: a rod is carried from state to state.
+use crate::Rod;
+use crate::against;
+use crate::variables;
+use law::Law;
+use pair::Pair;
+use response::Flowed;
+use response::Response;
+use row::Row;
+use sheet::Sheet;
+use units::Grain;
+use units::Modulus;
+use units::Nano;
+ghost use mathlib.Core.Path.{_≡_};
+ghost use mathlib.Core.Bool.{true};
+ghost use Prim.Native.Nat.{_+_, _≤_, _<_, _^_};
+ghost use lib.IntN.{natAbs};
+ghost use Rattle.refusals.specs.Table.{firstOf};
+ghost use Rattle.ranges.specs.Ranges.{mostCount, mostStress};
+ghost use Rattle.units.specs.Kinds.{grain};
+ghost use Rattle.sheet.specs.Sound.{SheetSound};
+ghost use Rattle.response.specs.Response.{mostTrial, responseMeaning};
+ghost use Rattle.rod.specs.Steps.{advanceBy, advanceOf, bothPassedBy, leavesRange, settledOf, stepMeaning, stepRefusals, trialOf};
+ghost use Rattle.rod.specs.Steady.{Accepted, PairAccepted};
+
+// The next state, with the row of the pair.
+pub struct Advance {
+    pub rod: Rod,
+    pub row: Row,
+}
+
+// What a step answers.
+pub enum Stepped {
+    Moved(Advance),
+    StrainLeaves,
+    BothFlow,
+    OutOfRange,
+}
+
+// What a pair leaves of a rod by its law.
+struct Settled {
+    yielded: bool,
+    stress: Grain,
+    first: Grain,
+    second: Grain,
+    tangent: Modulus,
+}
+
+// The law's answer as numbers: what didn't move is as it was.
+fn settle(rod: Rod, sheet: Sheet, trial: Grain, response: Response) -> Settled
+    ensures { λ r. ⌜ r ≡ settledOf (responseMeaning sheet (rod .first .0) (rod .second .0) (trial .0) response) ⌝ }
+{
+    let first = rod.first;
+    let second = rod.second;
+    match response {
+        Response::Elastic => {
+            let modulus = sheet.modulus;
+            Settled {
+                yielded: false,
+                stress: trial,
+                first: first,
+                second: second,
+                tangent: modulus,
+            }
+        }
+        Response::Tension(flowed) => in_first(flowed, second),
+        Response::Compression(flowed) => {
+            let law = sheet.law;
+            if variables::has_second(law) {
+                return in_second(first, flowed);
+            }
+            in_first(flowed, second)
+        }
+    }
+}
+
+fn in_first(flowed: Flowed, second: Grain) -> Settled
+    ensures { λ r. ⌜ r ≡ record { yielded = true; stress = flowed .stress; first = flowed .variable; second = second; tangent = flowed .tangent } ⌝ }
+{
+    let stress = flowed.stress;
+    let variable = flowed.variable;
+    let tangent = flowed.tangent;
+    Settled {
+        yielded: true,
+        stress: stress,
+        first: variable,
+        second: second,
+        tangent: tangent,
+    }
+}
+
+fn in_second(first: Grain, flowed: Flowed) -> Settled
+    ensures { λ r. ⌜ r ≡ record { yielded = true; stress = flowed .stress; first = first; second = flowed .variable; tangent = flowed .tangent } ⌝ }
+{
+    let stress = flowed.stress;
+    let variable = flowed.variable;
+    let tangent = flowed.tangent;
+    Settled {
+        yielded: true,
+        stress: stress,
+        first: first,
+        second: variable,
+        tangent: tangent,
+    }
+}
+
+// Whether the trial passes both limits of law 3.
+fn both_passed(rod: Rod, sheet: Sheet, trial: Grain) -> bool
+    requires { ⌜ SheetSound sheet ⌝ }
+    ensures { λ r. ⌜ r ≡ bothPassedBy (sheet .law) sheet rod (trial .0) ⌝ }
+{
+    let law = sheet.law;
+    if !variables::has_second(law) {
+        return false;
+    }
+    let tension = sheet.tension;
+    let compression = sheet.compression;
+    let modulus = sheet.modulus;
+    let first = rod.first;
+    let second = rod.second;
+    let negative = trial.negative();
+    if against::within_limit(
+        tension,
+        modulus,
+        first.magnitude(),
+        negative,
+        trial.magnitude(),
+    ) {
+        return false;
+    }
+    !against::within_limit(
+        compression,
+        modulus,
+        second.magnitude(),
+        !negative,
+        trial.magnitude(),
+    )
+}
+
+// Whether a stress, a variable or the count of pairs would leave its range.
+fn leaves_range(rod: Rod, settled: Settled) -> bool
+    requires { ⌜ rod .pairs < 2 ^ 32 ⌝ }
+    ensures { λ r. ⌜ r ≡ leavesRange rod (settled .stress .0) (settled .first .0) (settled .second .0) ⌝ }
+{
+    let law = rod.law;
+    let stress = settled.stress;
+    let first = settled.first;
+    let second = settled.second;
+    if !stress
+        .magnitude()
+        .at_most(Grain(ranges::MOST_STRESS).magnitude()) {
+        return true;
+    }
+    if !variables::first_right(law, first) {
+        return true;
+    }
+    if !variables::second_right(law, second) {
+        return true;
+    }
+    let pairs = rod.pairs + 1;
+    ranges::MOST_COUNT < pairs
+}
+
+impl Rod {
+    // The trial stress of a pair.
+    fn trial(self, sheet: Sheet, pair: Pair) -> Grain
+        requires { ⌜ Accepted sheet self × PairAccepted pair ⌝ }
+        ensures { λ r. ⌜ r ≡ grain (trialOf sheet self pair) ⌝ }
+        ensures most { λ r. ⌜ natAbs (r .0) ≤ mostTrial ⌝ }
+    {
+        let modulus = sheet.modulus;
+        let stress = self.stress;
+        let before = sheet::thermal(sheet, self.temperature);
+        let after = sheet::thermal(sheet, pair.temperature);
+        let change = pair.change;
+        let elastic = change.minus(after.minus(before));
+        stress.plus(elastic.times(modulus))
+    }
+
+    // The next state and the row, from the new strain and what the law left.
+    fn advance(self, sheet: Sheet, pair: Pair, settled: Settled) -> Advance
+        requires { ⌜ Accepted sheet self × PairAccepted pair ⌝ }
+        requires room { ⌜ (natAbs (settled .stress .0) ≤ mostStress) × (self .pairs + 1 ≤ mostCount) ⌝ }
+        ensures { λ r. ⌜ r ≡ advanceBy sheet self pair settled ⌝ }
+    {
+        let yielded = settled.yielded;
+        let stress = settled.stress;
+        let first = settled.first;
+        let second = settled.second;
+        let tangent = settled.tangent;
+        let law = self.law;
+        let modulus = sheet.modulus;
+        let strain = self.strain.plus(pair.change);
+        let temperature = pair.temperature;
+        let mechanical = strain.minus(sheet::thermal(sheet, temperature));
+        let plastic = mechanical.times(modulus).minus(stress);
+        let pairs = self.pairs + 1;
+        let yielded_pairs = self.yielded_pairs + bits::flag(yielded);
+        Advance {
+            rod: Rod {
+                law: law,
+                yielded: yielded,
+                strain: strain,
+                temperature: temperature,
+                stress: stress,
+                first: first,
+                second: second,
+                pairs: pairs,
+                yielded_pairs: yielded_pairs,
+            },
+            row: Row {
+                yielded: yielded,
+                tangent: tangent,
+                stress: stress,
+                plastic: plastic,
+            },
+        }
+    }
+
+    // Carries the rod over one pair, or refuses it: 9, 11, 10 in that order.
+    pub fn step(self, sheet: Sheet, pair: Pair) -> Stepped
+        requires { ⌜ Accepted sheet self × PairAccepted pair ⌝ }
+        ensures { λ r. ⌜ stepMeaning r ≡ firstOf (stepRefusals sheet self pair) (advanceOf sheet self pair) ⌝ }
+    {
+        let strain = self.strain.plus(pair.change);
+        if !strain
+            .magnitude()
+            .at_most(Nano(ranges::MOST_STRAIN).magnitude()) {
+            return Stepped::StrainLeaves;
+        }
+        let trial = self.trial(sheet, pair);
+        if both_passed(self, sheet, trial) {
+            return Stepped::BothFlow;
+        }
+        let first = self.first;
+        let second = self.second;
+        let response = response::respond(sheet, first, second, trial);
+        let settled = settle(self, sheet, trial, response);
+        if leaves_range(self, settled) {
+            return Stepped::OutOfRange;
+        }
+        Stepped::Moved(self.advance(sheet, pair, settled))
+    }
+}
