@@ -1,3 +1,6 @@
 pub mod Branches
 pub mod Places
 pub mod SoundSides
+pub mod Passing
+pub mod MovedTangent
+pub mod Laws

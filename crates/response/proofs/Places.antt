@@ -33,7 +33,7 @@ branch-of-sign s false false h e = omega (arith, e)
 branch-of-sign s true true h e = omega (arith, rw h at e)
 branch-of-sign s true false h e = omega (arith, rw h at e)
 
-isotropic-branch : (E : ℕ) (curve : Curve) (abscissa trial : ℤ) (negative : Bool) → isNeg trial ≡ negative → isotropicMoved E curve abscissa trial .branch ≡ pick negative 1 2 → ⊥
+pub isotropic-branch : (E : ℕ) (curve : Curve) (abscissa trial : ℤ) (negative : Bool) → isNeg trial ≡ negative → isotropicMoved E curve abscissa trial .branch ≡ pick negative 1 2 → ⊥
 unfolding isotropicMoved
 isotropic-branch E curve abscissa trial negative h e = branch-of-sign trial (isotropicMoved E curve abscissa trial .yielded) negative h e
 

@@ -1,2 +1,3 @@
 pub mod Response
 pub mod Parts
+pub mod Solved
