@@ -1,12 +1,14 @@
--- Refusal 5 by the tests of the single fields: one that fails gives 5, and where none fails the rod passes.
+-- Refusal 5 by the tests of the single fields: one that fails gives 5, and where none fails the rod passes. A variable's test goes by the law.
 use Prim.Native.Nat.{ℕ, zero, suc}
-use mathlib.Core.Path.{_≡_, refl, sym, _∙_}
+use mathlib.Core.Path.{_≡_, refl, sym, ap, _∙_}
 use mathlib.Core.Bool.{Bool, true, false, _&&_, and-false, true≢false}
 use mathlib.Core.List.{List, [], _∷_}
+use lib.IntN.{ℤ}
 use lib.Dec.{eqb}
 use lib.ListN.{getD}
 use Rattle.refusals.specs.Table.{firstOf, passes, refused}
 use Rattle.ranges.specs.Ranges.{around, temperatureRight, mostStrain, mostStress}
+use Rattle.bits.specs.Field.{signedIf}
 use Rattle.bits.proofs.SignLaws.{both-true}
 use Rattle.rod.specs.declared.Rod.{Rod}
 use Rattle.rod.specs.Variables.{firstRight, secondRight}
@@ -73,3 +75,7 @@ module _ (s : List ℕ) where
   pub passed-by : AllTrue (tests s) → passes (stateOf s) ≡ firstOf (fieldRefusals s) (stateOf s)
   unfolding firstOf fieldRefusals
   passed-by (z, f) = rw (z, in-range-is (stateOf s), all-true (strainTest (stateOf s)) (otherTests (stateOf s)) f)
+
+-- A variable's answer by what a test of the law came to.
+pub answer-by : (right : Bool → Bool) (z : ℤ) {t u v : Bool} → t ≡ v → t ≡ u → signedIf (right u) z ≡ signedIf (right v) z
+answer-by right z e f = ap (λ (b : Bool). signedIf (right b) z) (sym f ∙ e)

@@ -1,17 +1,29 @@
-use mathlib.Core.Path.{_∙_, sym}
+use mathlib.Core.Path.{_∙_}
+use mathlib.Core.Bool.{Bool}
 use borrow.Author.Needs.{needs}
+use lib.IntN.{ℤ}
+use Rattle.refusals.specs.Table.{pick}
+use Rattle.ranges.specs.Ranges.{around, mostStress}
+use Rattle.rod.specs.Variables.{abscissaRight}
+use Rattle.rod.specs.States.{first}
+use Rattle.rod.proofs.ReadLaws.{answer-by}
 use Rattle.rod.proofs.fields.first.Statement.{statement}
 use Rattle.rod.proofs.fields.first.Tie as tie
+
+abbrev right : ℤ → Bool → Bool
+right z isAbscissa = pick isAbscissa (abscissaRight z) (around mostStress z)
 
 returns : tie.Need-returns
 returns c =
     let t = c .before in
-    rw (sym (t .before .first-is-abscissa .ensures) ∙ t .if1 .taken) (c .read-signed .ensures)
+    let z = first (t .before .before .before .args .s .now) in
+    c .read-signed .ensures ∙ answer-by (right z) z (t .before .first-is-abscissa .ensures) (t .if1 .taken)
 
 returns-2 : tie.Need-returns-2
 returns-2 c =
     let t = c .before in
-    rw (sym (t .before .first-is-abscissa .ensures) ∙ t .if1 .left) (c .read-signed2 .ensures)
+    let z = first (t .before .before .before .args .s .now) in
+    c .read-signed2 .ensures ∙ answer-by (right z) z (t .before .first-is-abscissa .ensures) (t .if1 .left)
 
 pub first-spec : {M : Type 1} → statement M
 first-spec =

@@ -1,21 +1,31 @@
-use mathlib.Core.Path.{_∙_, sym, ap}
+use mathlib.Core.Path.{_∙_, ap}
+use mathlib.Core.Bool.{Bool, not, _||_}
 use borrow.Author.Needs.{needs}
+use lib.IntN.{ℤ}
 use Rattle.bits.specs.Field.{signedIf}
 use Rattle.bits.specs.declared.Signed.the-variants.{Value}
 use Rattle.bits.proofs.SignLaws.{held-as}
+use Rattle.rod.specs.Variables.{abscissaRight}
+use Rattle.rod.specs.States.{second}
+use Rattle.rod.proofs.ReadLaws.{answer-by}
 use Rattle.rod.proofs.fields.second.Statement.{statement}
 use Rattle.rod.proofs.fields.second.Tie as tie
+
+abbrev right : ℤ → Bool → Bool
+right z hasSecond = not hasSecond || abscissaRight z
 
 returns : tie.Need-returns
 returns c =
     let t = c .before in
-    rw (sym (t .before .has-second .ensures) ∙ t .if1 .taken) (c .read-signed .ensures)
+    let z = second (t .before .before .before .args .s .now) in
+    c .read-signed .ensures ∙ answer-by (right z) z (t .before .has-second .ensures) (t .if1 .taken)
 
 returns-2 : tie.Need-returns-2
 unfolding signedIf
 returns-2 c =
     let t = c .before in
-    rw (sym (t .before .has-second .ensures) ∙ t .if1 .left) (ap Value (held-as (c .read-whole .ok) (c .read-whole .ensures)))
+    let z = second (t .before .before .before .args .s .now) in
+    ap Value (held-as (c .read-whole .ok) (c .read-whole .ensures)) ∙ answer-by (right z) z (t .before .has-second .ensures) (t .if1 .left)
 
 pub second-spec : {M : Type 1} → statement M
 second-spec =
