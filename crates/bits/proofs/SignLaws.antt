@@ -1,10 +1,10 @@
 -- Laws of whole numbers with a sign, as the machine holds them, and of tests between them.
 use Prim.Native.Nat.{ℕ, zero, suc, _+_, _-_, _*_, _/_, _^_, _≤_, _<_}
 use mathlib.Core.Path.{_≡_, refl, sym, ap, ap₂, _∙_}
-use mathlib.Core.Bool.{Bool, true, false, not, _&&_, true≢false}
+use mathlib.Core.Bool.{Bool, true, false, not, true≢false}
 use native.Mathlib.Omega.{arith}
-use borrow.Author.Tests.{leb-true, ltb-true, ltb-false, lt-leb, le-leb, lt-ltb, le-ltb}
-use lib.IntN.{ℤ, pos, negsuc, negℤ, _-ℤ_}
+use borrow.Author.Tests.{ltb-true, ltb-false, lt-leb, le-leb, lt-ltb, le-ltb}
+use lib.IntN.{ℤ, pos, negsuc, _-ℤ_}
 use lib.Dec.{ltb, leb, eqb}
 use lib.Pow.{pow-mono, ones-split, ones-lt, high}
 use lib.Signed.{ltZ, leZ, mag}
@@ -12,7 +12,7 @@ use mir.Facts.{toZ-ofZ}
 use mir.Syntax.{w64}
 use mir.Val.{SFits, toZ, ofZ}
 use Rattle.refusals.specs.Table.{pick}
-use Rattle.bits.specs.Field.{twos, bitsOf, Held, flag, withinℤ}
+use Rattle.bits.specs.Field.{twos, bitsOf, Held, flag}
 
 pub minus-one-minus : (m : ℕ) → negsuc 0 -ℤ pos m ≡ negsuc m
 minus-one-minus zero = refl
@@ -115,17 +115,6 @@ bits-of-twos w x h l = by-test (ltb x (2 ^ (w - 1))) refl
     by-test : (t : Bool) → ltb x (2 ^ (w - 1)) ≡ t → (bitsOf w (pick (ltb x (2 ^ (w - 1))) (pos x) (negsuc (2 ^ w - 1 - x))) ≡ x) × Held w (pick (ltb x (2 ^ (w - 1))) (pos x) (negsuc (2 ^ w - 1 - x)))
     by-test true e = rw e (refl, ltb-true x (2 ^ (w - 1)) e)
     by-test false e = rw e (omega arith, omega (arith, half w h, ltb-false x (2 ^ (w - 1)) e))
-
--- What holds of both tests.
-pub both-true : (a b : Bool) → a && b ≡ true → (a ≡ true) × (b ≡ true)
-both-true true b e = (refl, e)
-both-true false b e = absurd (true≢false (sym e))
-
--- A number from -m to n, where a width holds both.
-pub within-held : (w m n : ℕ) (z : ℤ) → m ≤ 2 ^ (w - 1) → n < 2 ^ (w - 1) → withinℤ (negℤ (pos m)) (pos n) z ≡ true → Held w z
-within-held w m n (pos k) h l e = omega (arith, leb-true k n (both-true (leZ (negℤ (pos m)) (pos k)) (leb k n) e .1))
-within-held w zero n (negsuc k) h l e = absurd (true≢false (sym e))
-within-held w (suc m) n (negsuc k) h l e = omega (arith, leb-true k m (both-true (leb k m) true e .0))
 
 -- A yes or no fits its bit, and is read back from it.
 pub flag-below : (b : Bool) → flag b < 2

@@ -1,15 +1,19 @@
 -- What a rod in its ranges says of each of its numbers.
 use Prim.Native.Nat.{_≤_}
 use mathlib.Core.Path.{_≡_}
-use mathlib.Core.Bool.{true}
-use lib.IntN.{ℤ, natAbs}
+use mathlib.Core.Bool.{Bool, true, false, false≢true}
+use borrow.Author.Tests.{leb-true}
+use native.Mathlib.Omega.{arith}
+use lib.IntN.{ℤ, pos, negsuc, natAbs}
+use lib.Dec.{leb}
+use Rattle.refusals.specs.Table.{pick}
 use Rattle.refusals.proofs.FirstLaws.{both-hold}
-use Rattle.ranges.specs.Ranges.{around, temperatureRight, mostStrain, mostStress}
+use Rattle.ranges.specs.Ranges.{around, temperatureRight, mostStrain, mostStress, mostAbscissa}
 use Rattle.ranges.proofs.RangeMagnitudes.{around-magnitude}
 use Rattle.law.specs.declared.Law.{Law}
 use Rattle.law.specs.declared.Law.the-variants.{Kinematic}
 use Rattle.rod.specs.declared.Rod.{Rod}
-use Rattle.rod.specs.Variables.{firstRight, secondRight}
+use Rattle.rod.specs.Variables.{abscissaRight, firstRight, secondRight}
 use Rattle.rod.specs.States.{countsRight, inRange}
 
 pub record Ranged (r : Rod) : Type 0 where
@@ -40,3 +44,12 @@ ranged r e =
 -- The centre of law 2.
 pub centre-magnitude : (law : Law) (z : ℤ) → firstRight law z ≡ true → law ≡ Kinematic → natAbs z ≤ mostStress
 centre-magnitude law z e k = around-magnitude mostStress z (rw k at e)
+
+pub abscissa-magnitude : (z : ℤ) → abscissaRight z ≡ true → natAbs z ≤ mostAbscissa
+abscissa-magnitude (pos n) e = leb-true n mostAbscissa (both-hold (leb 0 n) (leb n mostAbscissa) e .1)
+abscissa-magnitude (negsuc n) e = absurd (false≢true e)
+
+-- A first variable of either kind.
+pub first-magnitude : (t : Bool) (z : ℤ) → pick t (abscissaRight z) (around mostStress z) ≡ true → natAbs z ≤ mostAbscissa
+first-magnitude true z e = abscissa-magnitude z e
+first-magnitude false z e = omega (arith, around-magnitude mostStress z e)

@@ -9,7 +9,6 @@ use lib.ListN.{getD}
 use Rattle.refusals.specs.Table.{firstOf, passes, refused}
 use Rattle.ranges.specs.Ranges.{around, temperatureRight, mostStrain, mostStress}
 use Rattle.bits.specs.Field.{signedIf}
-use Rattle.bits.proofs.SignLaws.{both-true}
 use Rattle.rod.specs.declared.Rod.{Rod}
 use Rattle.rod.specs.Variables.{firstRight, secondRight}
 use Rattle.rod.specs.States.{zeroBits, stateOf, countsRight, inRange, fieldRefusals}
@@ -37,13 +36,6 @@ all-true : (t : Bool) (us : List Bool) → AllTrue (t ∷ us) → allOf t us ≡
 all-true t [] (e, n) = e
 all-true t (u ∷ us) (e, (f, g)) = all-true (t && u) us (rw (e, f), g)
 
-parts-true : (t : Bool) (us : List Bool) → allOf t us ≡ true → AllTrue (t ∷ us)
-parts-true t [] e = (e, tt)
-parts-true t (u ∷ us) e =
-    let (both, rest) = parts-true (t && u) us e in
-    let two = both-true t u both in
-    (two .0, (two .1, rest))
-
 -- The tests of a rod's ranges, and those of a state's fields: the zero bits come first.
 abbrev strainTest : Rod → Bool
 strainTest r = around mostStrain (r .strain .0)
@@ -58,9 +50,6 @@ tests s = eqb (zeroBits s) 0 ∷ strainTest (stateOf s) ∷ otherTests (stateOf 
 in-range-is : (r : Rod) → inRange r ≡ allOf (strainTest r) (otherTests r)
 unfolding inRange
 in-range-is r = refl
-
-pub ranges-hold : (r : Rod) → inRange r ≡ true → AllTrue (strainTest r ∷ otherTests r)
-ranges-hold r e = parts-true (strainTest r) (otherTests r) (sym (in-range-is r) ∙ e)
 
 module _ (s : List ℕ) where
   failed : (k : ℕ) → getD (tests s) k true ≡ false → eqb (zeroBits s) 0 && inRange (stateOf s) ≡ false

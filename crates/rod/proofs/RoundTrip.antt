@@ -1,28 +1,28 @@
 -- States and rods: what was written is read back, what was read is written back, and neither tells less than the other.
 use Prim.Native.Nat.{ℕ, _<_, _^_}
 use mathlib.Core.Path.{_≡_, refl, sym, ap, _∙_}
-use mathlib.Core.Bool.{Bool, true, false, not, _&&_}
+use mathlib.Core.Bool.{true, not, _&&_}
 use mathlib.Core.List.{List, [], _∷_}
 use native.Mathlib.Omega.{arith}
-use borrow.Author.Tests.{eqb-true, eq-eqb, leb-true}
-use lib.IntN.{ℤ}
+use borrow.Author.Tests.{not-false, eqb-true, eq-eqb, leb-true}
 use lib.Dec.{eqb}
 use lib.ListN.{length}
-use Rattle.refusals.specs.Table.{firstOf, pick, passes, refused}
-use Rattle.ranges.specs.Ranges.{around, mostStrain, mostStress, mostAbscissa}
+use Rattle.refusals.specs.Table.{firstOf, passes}
+use Rattle.refusals.proofs.FirstLaws.{passes-line, passes-none, both-hold}
+use Rattle.ranges.proofs.RangeMagnitudes.{temperature-magnitude, mag-at-most}
 use Rattle.law.specs.Laws.{lawOf}
 use Rattle.law.proofs.LawLaws.{law-of-number, number-of-law}
 use Rattle.units.specs.Kinds.{nano, tenths, grain}
 use Rattle.bits.specs.Field.{field, Held}
 use Rattle.bits.specs.Layout.{filled, widths, packed, bytesOf}
 use Rattle.bits.proofs.FieldLaws.{field-below}
-use Rattle.bits.proofs.SignLaws.{within-held, both-true, flag-back, flag-again}
+use Rattle.bits.proofs.SignLaws.{flag-back, flag-again}
 use Rattle.bits.proofs.PutLaws.{length-bytesOf}
 use Rattle.bits.proofs.LayoutLaws.{Bytes, read-back, whole-back, whole-of-field, fieldsFrom, written-back}
 use Rattle.rod.specs.declared.Rod.{Rod}
-use Rattle.rod.specs.Variables.{firstIsAbscissa, abscissaRight}
+use Rattle.rod.specs.Variables.{firstIsAbscissa}
 use Rattle.rod.specs.States.{stateLayout, stateLength, zeroBits, stateOf, inRange, fieldRefusals, stateRefusals, stateValues, stateBytes, StateFits}
-use Rattle.rod.proofs.ReadLaws.{ranges-hold}
+use Rattle.rod.proofs.RangeFacts.{ranged, first-magnitude}
 use Rattle.rod.proofs.StateLaws.{parts, fit}
 
 -- Bytes that pass 4 and 5, with the rod that they give.
@@ -37,21 +37,14 @@ pub record Passed (s : List ℕ) (r : Rod) : Type 0 where
   pub rod : stateOf s ≡ r
 
 module _ (s : List ℕ) (r : Rod) where
-  by-fields : (t : Bool) → pick (not t) (refused 5) (passes (stateOf s)) ≡ passes r → (t ≡ true) × (stateOf s ≡ r)
-  by-fields true e = (refl, cc)
-  by-fields false e = absurd (let z : _≡_ {A = ℕ} 0 1 = cc in omega arith)
-
-  by-length : (t : Bool) → pick (not t) (refused 4) (firstOf (fieldRefusals s) (stateOf s)) ≡ passes r → (t ≡ true) × (firstOf (fieldRefusals s) (stateOf s) ≡ passes r)
-  by-length true e = (refl, e)
-  by-length false e = absurd (let z : _≡_ {A = ℕ} 0 1 = cc in omega arith)
-
   pub accepted-passed : Accepted s r → Passed s r
-  unfolding firstOf fieldRefusals stateRefusals
+  unfolding fieldRefusals stateRefusals
   accepted-passed e =
-      let (long, rest) = by-length (eqb (length s) stateLength) e in
-      let (both, rod) = by-fields (eqb (zeroBits s) 0 && inRange (stateOf s)) rest in
-      let two = both-true (eqb (zeroBits s) 0) (inRange (stateOf s)) both in
-      record { long = eqb-true _ _ long; zeros = eqb-true _ _ (two .0); ranges = ap inRange (sym rod) ∙ two .1; rod = rod }
+      let four = passes-line 4 (not (eqb (length s) stateLength)) (fieldRefusals s) (stateOf s) e in
+      let five = passes-line 5 (not (eqb (zeroBits s) 0 && inRange (stateOf s))) [] (stateOf s) (four .1) in
+      let rod = passes-none (stateOf s) (five .1) in
+      let both = both-hold (eqb (zeroBits s) 0) (inRange (stateOf s)) (not-false _ (five .0)) in
+      record { long = eqb-true _ _ (not-false _ (four .0)); zeros = eqb-true _ _ (both .0); ranges = ap inRange rod ∙ both .1; rod = sym rod }
 
   pub passed-accepted : Passed s r → Accepted s r
   unfolding firstOf fieldRefusals stateRefusals
@@ -64,14 +57,18 @@ read-fits s =
     record { strain = whole-of-field s 8 32 (omega arith) .1; temperature = whole-of-field s 40 16 (omega arith) .1; stress = whole-of-field s 56 48 (omega arith) .1; first = whole-of-field s 104 64 (omega arith) .1; second = whole-of-field s 168 64 (omega arith) .1; pairs = field-below s 232 32; yielded-pairs = field-below s 264 32 }
 
 -- and so does a rod in its ranges, where 64 bits hold its second variable and 32 bits its n.
-first-held : (t : Bool) (z : ℤ) → pick t (abscissaRight z) (around mostStress z) ≡ true → Held 64 z
-first-held true z e = within-held 64 0 mostAbscissa z (omega arith) (omega arith) e
-first-held false z e = within-held 64 mostStress mostStress z (omega arith) (omega arith) e
-
 pub in-range-fits : (r : Rod) → inRange r ≡ true → Held 64 (r .second .0) → r .pairs < 2 ^ 32 → StateFits r
 in-range-fits r e second n =
-    let (strain, (temperature, (stress, (first, (any, (counts, end)))))) = ranges-hold r e in
-    record { strain = within-held 32 mostStrain mostStrain (r .strain .0) (omega arith) (omega arith) strain; temperature = within-held 16 2000 20000 (r .temperature .0) (omega arith) (omega arith) temperature; stress = within-held 48 mostStress mostStress (r .stress .0) (omega arith) (omega arith) stress; first = first-held (firstIsAbscissa (r .law)) (r .first .0) first; second = second; pairs = n; yielded-pairs = omega (arith, leb-true (r .«yielded_pairs») (r .pairs) (both-true _ _ counts .0)) }
+    let in-ranges = ranged r e in
+    record {
+      strain = omega (arith, in-ranges .strain, mag-at-most (r .strain .0));
+      temperature = omega (arith, temperature-magnitude (r .temperature .0) (in-ranges .temperature), mag-at-most (r .temperature .0));
+      stress = omega (arith, in-ranges .stress, mag-at-most (r .stress .0));
+      first = omega (arith, first-magnitude (firstIsAbscissa (r .law)) (r .first .0) (in-ranges .first), mag-at-most (r .first .0));
+      second = second;
+      pairs = n;
+      yielded-pairs = omega (arith, leb-true (r .«yielded_pairs») (r .pairs) (both-hold _ _ (in-ranges .counts) .0));
+    }
 
 module _ (r : Rod) (fits : StateFits r) where
   -- Reading what was written gives the rod back.

@@ -1,43 +1,54 @@
--- The unused rod of a sheet whose reference temperature and yields lie in their ranges: it lies in its own ranges, and fits its fields.
+-- The unused rod of a sheet that passes lies in its ranges, and fits its fields.
 use Prim.Native.Nat.{ℕ, _*_, _≤_}
 use mathlib.Core.Path.{_≡_, refl}
-use mathlib.Core.Bool.{Bool, true, false, not, _||_}
+use mathlib.Core.Bool.{Bool, true, false, not, _||_, false≢true}
 use native.Mathlib.Omega.{arith}
 use borrow.Author.Tests.{le-leb}
 use lib.IntN.{pos}
 use lib.Dec.{leb·zero}
 use Rattle.refusals.specs.Table.{pick}
-use Rattle.ranges.specs.Ranges.{around, temperatureRight, mostStress, mostYield, grains}
+use Rattle.ranges.specs.Ranges.{around, mostStress, mostYield, mostAbscissa, grains}
+use Rattle.law.specs.declared.Law.{Law}
+use Rattle.law.specs.declared.Law.the-variants.{IsotropicLine, IsotropicCurve, Kinematic, Asymmetric}
 use Rattle.bits.specs.Field.{Held}
 use Rattle.sheet.specs.declared.Sheet.{Sheet}
+use Rattle.sheet.specs.Sound.{SheetSound}
 use Rattle.rod.specs.Variables.{firstIsAbscissa, hasSecond, abscissaRight}
 use Rattle.rod.specs.States.{inRange, StateFits}
 use Rattle.rod.specs.Unused.{startOf, unusedOf}
 use Rattle.rod.proofs.RoundTrip.{in-range-fits}
 
-module _ (y : ℕ) (h : y ≤ mostYield * grains) where
-  abscissa-starts : abscissaRight (pos y) ≡ true
-  abscissa-starts = simp (leb·zero, le-leb y 100000000000000000 (omega arith))
+second-is-asymmetric : (law : Law) → hasSecond law ≡ true → law ≡ Asymmetric
+second-is-asymmetric IsotropicLine e = absurd (false≢true e)
+second-is-asymmetric IsotropicCurve e = absurd (false≢true e)
+second-is-asymmetric Kinematic e = absurd (false≢true e)
+second-is-asymmetric Asymmetric e = refl
 
-  first-starts : (t : Bool) → pick t (abscissaRight (startOf t y)) (around mostStress (startOf t y)) ≡ true
-  first-starts true = abscissa-starts
-  first-starts false = refl
+-- The compression yield, where the law has a second variable.
+pub compression-most : (h : Sheet) → SheetSound h → hasSecond (h .law) ≡ true → h .compression .«yield_stress» .0 ≤ mostYield * grains
+compression-most h sound e = sound .compression (second-is-asymmetric (h .law) e) .yield-most
 
-  second-starts : (t : Bool) → not t || abscissaRight (startOf t y) ≡ true
-  second-starts true = abscissa-starts
-  second-starts false = refl
+abscissa-starts : (y : ℕ) → y ≤ mostYield * grains → abscissaRight (pos y) ≡ true
+abscissa-starts y h = simp (leb·zero, le-leb y mostAbscissa (omega arith))
 
-  start-held : (t : Bool) → Held 64 (startOf t y)
-  start-held true = omega arith
-  start-held false = omega arith
+first-starts : (t : Bool) (y : ℕ) → y ≤ mostYield * grains → pick t (abscissaRight (startOf t y)) (around mostStress (startOf t y)) ≡ true
+first-starts true y h = abscissa-starts y h
+first-starts false y h = refl
 
-module _ (h : Sheet) (reference : temperatureRight (h .reference .0) ≡ true) (tension : h .tension .«yield_stress» .0 ≤ mostYield * grains) (compression : h .compression .«yield_stress» .0 ≤ mostYield * grains) where
+second-starts : (t : Bool) (y : ℕ) → (t ≡ true → y ≤ mostYield * grains) → (not t || abscissaRight (startOf t y) ≡ true) × Held 64 (startOf t y)
+second-starts true y h = let most = h refl in (abscissa-starts y most, omega arith)
+second-starts false y h = (refl, omega arith)
+
+module _ (h : Sheet) (sound : SheetSound h) where
+  second : (not (hasSecond (h .law)) || abscissaRight (startOf (hasSecond (h .law)) (h .compression .«yield_stress» .0)) ≡ true) × Held 64 (startOf (hasSecond (h .law)) (h .compression .«yield_stress» .0))
+  second = second-starts (hasSecond (h .law)) (h .compression .«yield_stress» .0) (compression-most h sound)
+
   pub unused-in-range : inRange (unusedOf h) ≡ true
   unfolding inRange unusedOf
   unused-in-range =
-      rw (reference, first-starts (h .tension .«yield_stress» .0) tension (firstIsAbscissa (h .law)), second-starts (h .compression .«yield_stress» .0) compression (hasSecond (h .law)))
+      let first = first-starts (firstIsAbscissa (h .law)) (h .tension .«yield_stress» .0) (sound .tension .yield-most) in
+      rw (sound .reference-right, first, second .0)
 
   pub unused-fits : StateFits (unusedOf h)
   unfolding unusedOf
-  unused-fits =
-      in-range-fits (unusedOf h) unused-in-range (start-held (h .compression .«yield_stress» .0) compression (hasSecond (h .law))) (omega arith)
+  unused-fits = in-range-fits (unusedOf h) unused-in-range (second .1) (omega arith)

@@ -6,13 +6,15 @@ use units::Grain;
 use units::Magnitude;
 use units::Nano;
 ghost use mathlib.Core.Path.{_≡_};
+ghost use mathlib.Core.Bool.{true};
 ghost use Prim.Native.Nat.{_<_, _^_};
 ghost use Rattle.units.specs.Kinds.{grain};
+ghost use Rattle.sheet.specs.Sound.{SheetSound};
 ghost use Rattle.rod.specs.Unused.{startOf, unusedOf};
 
 // A variable of an unused rod.
 fn start(abscissa: bool, yield_stress: Magnitude) -> Grain
-    requires { ⌜ «yield_stress» .0 < 2 ^ 63 ⌝ }
+    requires { ⌜ (abscissa ≡ true → «yield_stress» .0 < 2 ^ 63) ⌝ }
     ensures { λ r. ⌜ r ≡ grain (startOf abscissa («yield_stress» .0)) ⌝ }
 {
     if abscissa {
@@ -23,7 +25,7 @@ fn start(abscissa: bool, yield_stress: Magnitude) -> Grain
 
 impl Rod {
     pub fn unused(sheet: Sheet) -> Rod
-        requires { ⌜ (sheet .tension .«yield_stress» .0 < 2 ^ 63) × (sheet .compression .«yield_stress» .0 < 2 ^ 63) ⌝ }
+        requires { ⌜ SheetSound sheet ⌝ }
         ensures { λ r. ⌜ r ≡ unusedOf sheet ⌝ }
     {
         let law = sheet.law;
