@@ -7,3 +7,4 @@ pub mod Asymmetric
 pub mod Centre
 pub mod Kinematic
 pub mod Unused
+pub mod BarSteps

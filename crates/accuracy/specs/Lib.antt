@@ -1,1 +1,3 @@
 pub mod Close
+pub mod Bar
+pub mod Only
