@@ -6,3 +6,4 @@ pub mod RoundTrip
 pub mod UnusedLaws
 pub mod VariableLaws
 pub mod StepLaws
+pub mod Kept

@@ -6,3 +6,4 @@ pub mod Forecast
 pub mod Unused
 pub mod Steps
 pub mod Steady
+pub mod Kept
