@@ -112,9 +112,12 @@ pub bits-of-twos : (w x : ℕ) → 1 ≤ w → x < 2 ^ w → (bitsOf w (twos w x
 unfolding bitsOf twos
 bits-of-twos w x h l = by-test (ltb x (2 ^ (w - 1))) refl
   where
-    by-test : (t : Bool) → ltb x (2 ^ (w - 1)) ≡ t → (bitsOf w (pick (ltb x (2 ^ (w - 1))) (pos x) (negsuc (2 ^ w - 1 - x))) ≡ x) × Held w (pick (ltb x (2 ^ (w - 1))) (pos x) (negsuc (2 ^ w - 1 - x)))
-    by-test true e = rw e (refl, ltb-true x (2 ^ (w - 1)) e)
-    by-test false e = rw e (omega arith, omega (arith, half w h, ltb-false x (2 ^ (w - 1)) e))
+    stands : Bool → ℤ
+    stands t = pick t (pos x) (negsuc (2 ^ w - 1 - x))
+
+    by-test : (t : Bool) → ltb x (2 ^ (w - 1)) ≡ t → (bitsOf w (stands t) ≡ x) × Held w (stands t)
+    by-test true e = (refl, ltb-true x (2 ^ (w - 1)) e)
+    by-test false e = (omega arith, omega (arith, half w h, ltb-false x (2 ^ (w - 1)) e))
 
 -- A yes or no fits its bit, and is read back from it.
 pub flag-below : (b : Bool) → flag b < 2

@@ -97,6 +97,7 @@ put-layout buffer at fs n (c ∷ cs) f room =
     let regrouped : more ++ fieldsOf cs ≡ fs ++ (p ∷ fieldsOf cs) = append-assoc fs (p ∷ []) (fieldsOf cs) in
     let g : Fit (more ++ fieldsOf cs) = subst Fit (sym regrouped) f in
     let next : put (put buffer at (bytesOf n (packed fs))) (at + n) (bytesOf (c .count) (c .number)) ≡ put buffer at (bytesOf (n + c .count) (packed more)) =
-    ap (λ (x : ℕ). put (put buffer at (bytesOf n (packed fs))) (at + n) (bytesOf (c .count) x)) (sym (packed-alone p)) ∙ put-halves buffer at fs (p ∷ []) n (c .count) (omega arith) (fit-front more (fieldsOf cs) g) (omega arith) in
+    ap (λ (x : ℕ). put (put buffer at (bytesOf n (packed fs))) (at + n) (bytesOf (c .count) x)) (sym (packed-alone p))
+    ∙ put-halves buffer at fs (p ∷ []) n (c .count) (omega arith) (fit-front more (fieldsOf cs) g) (omega arith) in
     ap (λ (b : List ℕ). putFrom b at (n + c .count) cs) next ∙ put-layout buffer at more (n + c .count) cs g (omega arith)
     ∙ ap₂ (λ (k : ℕ) (ps : List Part). put buffer at (bytesOf k (packed ps))) (add-assoc n (c .count) (counted cs)) regrouped

@@ -42,7 +42,12 @@ strainTest r = around mostStrain (r .strain .0)
 
 abbrev otherTests : Rod → List Bool
 otherTests r =
-    temperatureRight (r .temperature .0) ∷ around mostStress (r .stress .0) ∷ firstRight (r .law) (r .first .0) ∷ secondRight (r .law) (r .second .0) ∷ countsRight (r .yielded) (r .pairs) (r .«yielded_pairs») ∷ []
+    temperatureRight (r .temperature .0)
+    ∷ around mostStress (r .stress .0)
+    ∷ firstRight (r .law) (r .first .0)
+    ∷ secondRight (r .law) (r .second .0)
+    ∷ countsRight (r .yielded) (r .pairs) (r .«yielded_pairs»)
+    ∷ []
 
 abbrev pub tests : List ℕ → List Bool
 tests s = eqb (zeroBits s) 0 ∷ strainTest (stateOf s) ∷ otherTests (stateOf s)

@@ -54,7 +54,15 @@ module _ (s : List ℕ) (r : Rod) where
 -- The rod of any bytes fits its fields,
 pub read-fits : (s : List ℕ) → StateFits (stateOf s)
 read-fits s =
-    record { strain = whole-of-field s 8 32 (omega arith) .1; temperature = whole-of-field s 40 16 (omega arith) .1; stress = whole-of-field s 56 48 (omega arith) .1; first = whole-of-field s 104 64 (omega arith) .1; second = whole-of-field s 168 64 (omega arith) .1; pairs = field-below s 232 32; yielded-pairs = field-below s 264 32 }
+    record {
+      strain = whole-of-field s 8 32 (omega arith) .1;
+      temperature = whole-of-field s 40 16 (omega arith) .1;
+      stress = whole-of-field s 56 48 (omega arith) .1;
+      first = whole-of-field s 104 64 (omega arith) .1;
+      second = whole-of-field s 168 64 (omega arith) .1;
+      pairs = field-below s 232 32;
+      yielded-pairs = field-below s 264 32;
+    }
 
 -- and so does a rod in its ranges, where 64 bits hold its second variable and 32 bits its n.
 pub in-range-fits : (r : Rod) → inRange r ≡ true → Held 64 (r .second .0) → r .pairs < 2 ^ 32 → StateFits r
@@ -84,7 +92,17 @@ module _ (r : Rod) (fits : StateFits r) where
       let stress = whole 5 (omega arith) 48 (r .stress .0) (omega arith) (fits .stress) refl in
       let first = whole 6 (omega arith) 64 (r .first .0) (omega arith) (fits .first) refl in
       let second = whole 7 (omega arith) 64 (r .second .0) (omega arith) (fits .second) refl in
-      λ i. record { law = law i; yielded = yielded i; strain = nano (strain i); temperature = tenths (temperature i); stress = grain (stress i); first = grain (first i); second = grain (second i); pairs = number 8 (omega arith) i; «yielded_pairs» = number 9 (omega arith) i }
+      λ i. record {
+        law = law i;
+        yielded = yielded i;
+        strain = nano (strain i);
+        temperature = tenths (temperature i);
+        stress = grain (stress i);
+        first = grain (first i);
+        second = grain (second i);
+        pairs = number 8 (omega arith) i;
+        «yielded_pairs» = number 9 (omega arith) i;
+      }
 
   -- The bytes of a rod in its ranges pass, and give that rod.
   pub state-back : inRange r ≡ true → Accepted (stateBytes r) r

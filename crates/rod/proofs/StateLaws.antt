@@ -25,7 +25,14 @@ kept r = chunk 8 (bitsOf 64 (r .second .0)) ∷ chunk 4 (r .pairs) ∷ chunk 4 (
 
 pub fit : (r : Rod) → StateFits r → Fit (parts r)
 fit r fits =
-    (number-below-four (r .law), (flag-below (r .yielded), (omega arith, (bits-below 32 (r .strain .0) (omega arith) (fits .strain), (bits-below 16 (r .temperature .0) (omega arith) (fits .temperature), (bits-below 48 (r .stress .0) (omega arith) (fits .stress), (bits-below 64 (r .first .0) (omega arith) (fits .first), (bits-below 64 (r .second .0) (omega arith) (fits .second), (fits .pairs, (fits .yielded-pairs, tt))))))))))
+    let strain = bits-below 32 (r .strain .0) (omega arith) (fits .strain) in
+    let temperature = bits-below 16 (r .temperature .0) (omega arith) (fits .temperature) in
+    let stress = bits-below 48 (r .stress .0) (omega arith) (fits .stress) in
+    let first = bits-below 64 (r .first .0) (omega arith) (fits .first) in
+    let second = bits-below 64 (r .second .0) (omega arith) (fits .second) in
+    let law = number-below-four (r .law) in
+    let yielded = flag-below (r .yielded) in
+    (law, (yielded, (omega arith, (strain, (temperature, (stress, (first, (second, (fits .pairs, (fits .yielded-pairs, tt))))))))))
 
 module _ (r : Rod) (fits : StateFits r) (buffer : List ℕ) (at : ℕ) where
   pub put-head : at + 13 ≤ length buffer

@@ -13,7 +13,7 @@ use Rattle.law.specs.declared.Law.the-variants.{IsotropicLine, IsotropicCurve, 
 use Rattle.bits.specs.Field.{Held}
 use Rattle.sheet.specs.declared.Sheet.{Sheet}
 use Rattle.sheet.specs.Sound.{SheetSound}
-use Rattle.rod.specs.Variables.{firstIsAbscissa, hasSecond, abscissaRight}
+use Rattle.rod.specs.Variables.{firstIsAbscissa, hasSecond, abscissaRight, secondRight}
 use Rattle.rod.specs.States.{inRange, StateFits}
 use Rattle.rod.specs.Unused.{startOf, unusedOf}
 use Rattle.rod.proofs.RoundTrip.{in-range-fits}
@@ -40,7 +40,7 @@ second-starts true y h = let most = h refl in (abscissa-starts y most, omega ari
 second-starts false y h = (refl, omega arith)
 
 module _ (h : Sheet) (sound : SheetSound h) where
-  second : (not (hasSecond (h .law)) || abscissaRight (startOf (hasSecond (h .law)) (h .compression .«yield_stress» .0)) ≡ true) × Held 64 (startOf (hasSecond (h .law)) (h .compression .«yield_stress» .0))
+  second : let z = startOf (hasSecond (h .law)) (h .compression .«yield_stress» .0) in (secondRight (h .law) z ≡ true) × Held 64 z
   second = second-starts (hasSecond (h .law)) (h .compression .«yield_stress» .0) (compression-most h sound)
 
   pub unused-in-range : inRange (unusedOf h) ≡ true

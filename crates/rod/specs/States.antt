@@ -59,7 +59,17 @@ yieldedPairs s = fieldAt stateLayout s 9
 -- The rod that the fields hold.
 abbrev pub stateOf : List ℕ → Rod
 stateOf s =
-    record { law = lawOf (lawNumber s); yielded = yielded s; strain = nano (strain s); temperature = tenths (temperature s); stress = grain (stress s); first = grain (first s); second = grain (second s); pairs = pairs s; «yielded_pairs» = yieldedPairs s }
+    record {
+      law = lawOf (lawNumber s);
+      yielded = yielded s;
+      strain = nano (strain s);
+      temperature = tenths (temperature s);
+      stress = grain (stress s);
+      first = grain (first s);
+      second = grain (second s);
+      pairs = pairs s;
+      «yielded_pairs» = yieldedPairs s;
+    }
 
 -- "k at most n; yielded 1 needs k at least 1"
 abbrev pub countsRight : Bool → ℕ → ℕ → Bool
@@ -92,7 +102,17 @@ readMeaning OutOfRange = refused 5
 -- What a rod puts into the fields.
 abbrev pub stateValues : Rod → List ℕ
 stateValues r =
-    numberOf (r .law) ∷ flag (r .yielded) ∷ 0 ∷ bitsOf 32 (r .strain .0) ∷ bitsOf 16 (r .temperature .0) ∷ bitsOf 48 (r .stress .0) ∷ bitsOf 64 (r .first .0) ∷ bitsOf 64 (r .second .0) ∷ r .pairs ∷ r .«yielded_pairs» ∷ []
+    numberOf (r .law)
+    ∷ flag (r .yielded)
+    ∷ 0
+    ∷ bitsOf 32 (r .strain .0)
+    ∷ bitsOf 16 (r .temperature .0)
+    ∷ bitsOf 48 (r .stress .0)
+    ∷ bitsOf 64 (r .first .0)
+    ∷ bitsOf 64 (r .second .0)
+    ∷ r .pairs
+    ∷ r .«yielded_pairs»
+    ∷ []
 
 -- Each number of a rod fits its field.
 pub record StateFits (r : Rod) : Type 0 where

@@ -15,4 +15,14 @@ startOf isAbscissa yield = pick isAbscissa (pos yield) (pos 0)
 
 unfoldable pub unusedOf : Sheet → Rod
 unusedOf h =
-    record { law = h .law; yielded = false; strain = nano (pos 0); temperature = h .reference; stress = grain (pos 0); first = grain (startOf (firstIsAbscissa (h .law)) (h .tension .«yield_stress» .0)); second = grain (startOf (hasSecond (h .law)) (h .compression .«yield_stress» .0)); pairs = 0; «yielded_pairs» = 0 }
+    record {
+      law = h .law;
+      yielded = false;
+      strain = nano (pos 0);
+      temperature = h .reference;
+      stress = grain (pos 0);
+      first = grain (startOf (firstIsAbscissa (h .law)) (h .tension .«yield_stress» .0));
+      second = grain (startOf (hasSecond (h .law)) (h .compression .«yield_stress» .0));
+      pairs = 0;
+      «yielded_pairs» = 0;
+    }

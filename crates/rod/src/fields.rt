@@ -1,4 +1,4 @@
-// The fields of a state that have a range, each read at its place.
+// Single fields of a state, each read at its place.
 use crate::variables;
 use bits::Signed;
 use bits::Unsigned;

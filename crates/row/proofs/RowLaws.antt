@@ -24,7 +24,9 @@ rest r = chunk 6 (bitsOf 48 (r .stress .0)) ∷ chunk 7 (bitsOf 56 (r .plastic .
 module _ (r : Row) (fits : RowFits r) where
   fit : Fit (parts r)
   fit =
-      (flag-below (r .yielded), (omega arith, (fits .tangent, (bits-below 48 (r .stress .0) (omega arith) (fits .stress), (bits-below 56 (r .plastic .0) (omega arith) (fits .plastic), tt)))))
+      let stress = bits-below 48 (r .stress .0) (omega arith) (fits .stress) in
+      let plastic = bits-below 56 (r .plastic .0) (omega arith) (fits .plastic) in
+      (flag-below (r .yielded), (omega arith, (fits .tangent, (stress, (plastic, tt)))))
 
   -- Written one behind another they are the row.
   pub put-row : (buffer : List ℕ) (at : ℕ) → at + rowLength ≤ length buffer

@@ -44,8 +44,12 @@ returns c =
     let start = front .before .before in
     let r = start .args .self in
     let fits = start .pre .1 in
-    rw (stress .write-signed3 .ensures, temperature .write-signed2 .ensures, strain .write-signed .ensures, first .write .ensures, front .front .ensures, passed 32 (r .strain .0) (fits .strain) (omega arith), passed 16 (r .temperature .0) (fits .temperature) (omega arith), passed 48 (r .stress .0) (fits .stress) (omega arith))
-    (put-head r fits (start .args .buffer .now) (start .args .at) (start .pre .0))
+    let strain-is = passed 32 (r .strain .0) (fits .strain) (omega arith) in
+    let temperature-is = passed 16 (r .temperature .0) (fits .temperature) (omega arith) in
+    let stress-is = passed 48 (r .stress .0) (fits .stress) (omega arith) in
+    rw (stress .write-signed3 .ensures, temperature .write-signed2 .ensures, strain .write-signed .ensures)
+    (rw (first .write .ensures, front .front .ensures, strain-is, temperature-is, stress-is)
+    (put-head r fits (start .args .buffer .now) (start .args .at) (start .pre .0)))
 
 pub write-head-spec : {M : Type 1} → statement M
 write-head-spec =

@@ -14,7 +14,9 @@ returns c =
     let start = first .before .before .before .before in
     let r = start .args .self in
     let fits = start .pre .1 in
-    rw (yielded-pairs .write2 .ensures, pairs .write .ensures, second .write-signed2 .ensures, first .write-signed .ensures, passed 64 (r .first .0) (fits .first) (omega arith), passed 64 (r .second .0) (fits .second) (omega arith))
+    let first-is = passed 64 (r .first .0) (fits .first) (omega arith) in
+    let second-is = passed 64 (r .second .0) (fits .second) (omega arith) in
+    rw (yielded-pairs .write2 .ensures, pairs .write .ensures, second .write-signed2 .ensures, first .write-signed .ensures, first-is, second-is)
     (put-tail r fits (start .args .buffer .now) (start .args .at) (start .pre .0))
 
 pub write-tail-spec : {M : Type 1} → statement M

@@ -17,7 +17,8 @@ returns : tie.Need-returns
 returns c =
     let a = c .before .before .before .args in
     let k = yieldedPairs (a .s .now) in
-    c .read-unsigned .ensures ∙ ap (λ (least : ℕ). unsignedIf (within least (a .pairs) k) k) (c .before .flag .ensures .0) ∙ ap (λ (t : Bool). unsignedIf t k) (counts-within (a .yielded) (a .pairs) k)
+    c .read-unsigned .ensures ∙ ap (λ (least : ℕ). unsignedIf (within least (a .pairs) k) k) (c .before .flag .ensures .0)
+    ∙ ap (λ (t : Bool). unsignedIf t k) (counts-within (a .yielded) (a .pairs) k)
 
 pub yielded-pairs-spec : {M : Type 1} → statement M
 yielded-pairs-spec = tie.close (tie.spec (λ c κs. search needs) (λ c κs. search needs) returns)

@@ -102,11 +102,33 @@ returns-8 c =
     let stress-is = held-as (first-read .before .known-told3 .given .0 .1) (stress .1) in
     let first-is = held-as (second-read .before .known-told4 .given .0 .1) (first-in .1) in
     let second-is = held-as (n-read .before .known-told5 .given .0 .1) (second-in .1) in
+    let zero-right = sym (within-itself 0 (zeroBits s)) ∙ zero .0 in
+    let first-right = under s firstRight (first s) law (first-in .0) in
+    let second-right = under s secondRight (second s) law (second-in .0) in
+    let counts-right = counts s (front .read .ensures) (n-read .read2 .ensures) (k .0) in
     ap passes
-    (λ i. record { law = law i; yielded = eqb (front .read .ensures i) 1; strain = nano (strain-is i); temperature = tenths (temperature-is i); stress = grain (stress-is i); first = grain (first-is i); second = grain (second-is i); pairs = n-read .read2 .ensures i; «yielded_pairs» = k .1 i })
-    ∙ passed-by s (sym (within-itself 0 (zeroBits s)) ∙ zero .0, (strain .0, (temperature .0, (stress .0, (under s firstRight (first s) law (first-in .0), (under s secondRight (second s) law (second-in .0), (counts s (front .read .ensures) (n-read .read2 .ensures) (k .0), tt)))))))
+    (λ i. record {
+      law = law i;
+      yielded = eqb (front .read .ensures i) 1;
+      strain = nano (strain-is i);
+      temperature = tenths (temperature-is i);
+      stress = grain (stress-is i);
+      first = grain (first-is i);
+      second = grain (second-is i);
+      pairs = n-read .read2 .ensures i;
+      «yielded_pairs» = k .1 i;
+    })
+    ∙ passed-by s (zero-right, (strain .0, (temperature .0, (stress .0, (first-right, (second-right, (counts-right, tt)))))))
 
 pub read-fields-spec : {M : Type 1} → statement M
 read-fields-spec =
     tie.close
-    (tie.spec (λ c κs. search needs) (λ c κs. search needs) (λ c κs. search needs) (λ c. search needs) (λ c. search needs) returns (λ c κs. search needs) (λ c. search needs) (λ c. search needs) returns-2 (λ c κs. search needs) (λ c. search needs) (λ c. search needs) returns-3 (λ c κs. search needs) (λ c. search needs) (λ c. search needs) returns-4 (λ c κs. search needs) (λ c. search needs) (λ c. search needs) returns-5 (λ c κs. search needs) (λ c. search needs) (λ c. search needs) returns-6 (λ c κs. search needs) (λ c κs. search needs) (λ c. search needs) (λ c. search needs) returns-7 returns-8)
+    (tie.spec
+    (λ c κs. search needs) (λ c κs. search needs) (λ c κs. search needs) (λ c. search needs) (λ c. search needs) returns
+    (λ c κs. search needs) (λ c. search needs) (λ c. search needs) returns-2
+    (λ c κs. search needs) (λ c. search needs) (λ c. search needs) returns-3
+    (λ c κs. search needs) (λ c. search needs) (λ c. search needs) returns-4
+    (λ c κs. search needs) (λ c. search needs) (λ c. search needs) returns-5
+    (λ c κs. search needs) (λ c. search needs) (λ c. search needs) returns-6
+    (λ c κs. search needs) (λ c κs. search needs) (λ c. search needs) (λ c. search needs) returns-7
+    returns-8)

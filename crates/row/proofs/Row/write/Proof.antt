@@ -24,7 +24,9 @@ returns c =
     let start = front .before .before in
     let r = start .args .self in
     let fits = start .pre .1 in
-    rw (plastic .write-signed2 .ensures, stress .write-signed .ensures, first .write .ensures, front .front .ensures, passed 48 (r .stress .0) (fits .stress) (omega arith), passed 56 (r .plastic .0) (fits .plastic) (omega arith))
+    let stress-is = passed 48 (r .stress .0) (fits .stress) (omega arith) in
+    let plastic-is = passed 56 (r .plastic .0) (fits .plastic) (omega arith) in
+    rw (plastic .write-signed2 .ensures, stress .write-signed .ensures, first .write .ensures, front .front .ensures, stress-is, plastic-is)
     (put-row r fits (start .args .buffer .now) (start .args .at) (start .pre .0))
 
 pub write-spec : {M : Type 1} → statement M
