@@ -1,11 +1,9 @@
 -- What a rod in its ranges says of each of its numbers.
 use Prim.Native.Nat.{_≤_}
 use mathlib.Core.Path.{_≡_}
-use mathlib.Core.Bool.{Bool, true, false, false≢true}
-use borrow.Author.Tests.{leb-true}
+use mathlib.Core.Bool.{Bool, true, false}
 use native.Mathlib.Omega.{arith}
-use lib.IntN.{ℤ, pos, negsuc, natAbs}
-use lib.Dec.{leb}
+use lib.IntN.{ℤ, natAbs}
 use Rattle.refusals.specs.Table.{pick}
 use Rattle.refusals.proofs.FirstLaws.{both-hold}
 use Rattle.ranges.specs.Ranges.{around, temperatureRight, mostStrain, mostStress, mostAbscissa}
@@ -15,6 +13,7 @@ use Rattle.law.specs.declared.Law.the-variants.{Kinematic}
 use Rattle.rod.specs.declared.Rod.{Rod}
 use Rattle.rod.specs.Variables.{abscissaRight, firstRight, secondRight}
 use Rattle.rod.specs.States.{countsRight, inRange}
+use Rattle.rod.proofs.VariableLaws.{abscissa-facts}
 
 pub record Ranged (r : Rod) : Type 0 where
   pub strain : natAbs (r .strain .0) ≤ mostStrain
@@ -45,11 +44,7 @@ ranged r e =
 pub centre-magnitude : (law : Law) (z : ℤ) → firstRight law z ≡ true → law ≡ Kinematic → natAbs z ≤ mostStress
 centre-magnitude law z e k = around-magnitude mostStress z (rw k at e)
 
-pub abscissa-magnitude : (z : ℤ) → abscissaRight z ≡ true → natAbs z ≤ mostAbscissa
-abscissa-magnitude (pos n) e = leb-true n mostAbscissa (both-hold (leb 0 n) (leb n mostAbscissa) e .1)
-abscissa-magnitude (negsuc n) e = absurd (false≢true e)
-
 -- A first variable of either kind.
 pub first-magnitude : (t : Bool) (z : ℤ) → pick t (abscissaRight z) (around mostStress z) ≡ true → natAbs z ≤ mostAbscissa
-first-magnitude true z e = abscissa-magnitude z e
+first-magnitude true z e = abscissa-facts z e .1
 first-magnitude false z e = omega (arith, around-magnitude mostStress z e)
