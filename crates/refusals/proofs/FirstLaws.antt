@@ -44,7 +44,7 @@ stops-first [] second v w n e = absurd (refused-is-not-passes n v (sym e))
 stops-first (r ∷ rest) second v w n e = by-line (r .applies) e (stops-first rest second v w n)
   where
     by-line : (t : Bool) → pick t (refused (r .number)) (firstOf rest v) ≡ refused n
-      → (firstOf rest v ≡ refused n → firstOf (rest ++ second) w ≡ refused n) → pick t (refused (r .number)) (firstOf (rest ++ second) w) ≡ refused n
+        → (firstOf rest v ≡ refused n → firstOf (rest ++ second) w ≡ refused n) → pick t (refused (r .number)) (firstOf (rest ++ second) w) ≡ refused n
     by-line true e onward = ap refused (same-refused (r .number) n e)
     by-line false e onward = onward e
 
@@ -54,6 +54,6 @@ goes-on [] second v w e = refl
 goes-on (r ∷ rest) second v w {x} e = by-line (r .applies) e (goes-on rest second v w)
   where
     by-line : (t : Bool) → pick t (refused (r .number)) (firstOf rest v) ≡ passes x
-      → (firstOf rest v ≡ passes x → firstOf (rest ++ second) w ≡ firstOf second w) → pick t (refused (r .number)) (firstOf (rest ++ second) w) ≡ firstOf second w
+        → (firstOf rest v ≡ passes x → firstOf (rest ++ second) w ≡ firstOf second w) → pick t (refused (r .number)) (firstOf (rest ++ second) w) ≡ firstOf second w
     by-line true e onward = absurd (refused-is-not-passes (r .number) x e)
     by-line false e onward = onward e

@@ -1,0 +1,1 @@
+// Definitions and theorems only: document 01's loops on the board, computed on the definitions.
