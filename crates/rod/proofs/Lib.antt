@@ -7,3 +7,4 @@ pub mod UnusedLaws
 pub mod VariableLaws
 pub mod StepLaws
 pub mod Kept
+pub mod PairSolved

@@ -196,24 +196,26 @@ impl Rod {
         let plastic = mechanical.times(modulus).minus(stress);
         let pairs = self.pairs + 1;
         let yielded_pairs = self.yielded_pairs + bits::flag(yielded);
+        let next = Rod {
+            law: law,
+            yielded: yielded,
+            strain: strain,
+            temperature: temperature,
+            stress: stress,
+            first: first,
+            second: second,
+            pairs: pairs,
+            yielded_pairs: yielded_pairs,
+        };
+        let row = Row {
+            yielded: yielded,
+            tangent: tangent,
+            stress: stress,
+            plastic: plastic,
+        };
         Advance {
-            rod: Rod {
-                law: law,
-                yielded: yielded,
-                strain: strain,
-                temperature: temperature,
-                stress: stress,
-                first: first,
-                second: second,
-                pairs: pairs,
-                yielded_pairs: yielded_pairs,
-            },
-            row: Row {
-                yielded: yielded,
-                tangent: tangent,
-                stress: stress,
-                plastic: plastic,
-            },
+            rod: next,
+            row: row,
         }
     }
 

@@ -1,0 +1,46 @@
+-- Demand 2: for every sheet, state and pair that passed, reachable or not, what the pair leaves is the rounding, as stated, of the only
+-- solution of the law's conditions, yielded exactly when plastic strain grew, with the law's tangent.
+use Prim.Native.Nat.{ℕ}
+use mathlib.Core.Path.{_≡_, refl}
+use mathlib.Core.Bool.{true, false≢true}
+use borrow.Author.Tests.{leb-true}
+use lib.Dec.{eqb}
+use lib.IntN.{ℤ, pos, negsuc, negℤ, natAbs}
+use Rattle.refusals.proofs.FirstLaws.{both-hold, three-hold}
+use Rattle.law.specs.declared.Law.{Law}
+use Rattle.law.specs.declared.Law.the-variants.{IsotropicLine, IsotropicCurve, Kinematic, Asymmetric}
+use Rattle.law.specs.Laws.{numberOf}
+use Rattle.curve.specs.declared.Side.{Side}
+use Rattle.pair.specs.declared.Pair.{Pair}
+use Rattle.sheet.specs.declared.Sheet.{Sheet}
+use Rattle.response.specs.Solved.{Solved, conditionsUnder, PastYield, AbscissasPast}
+use Rattle.response.proofs.Laws.{law-solved}
+use Rattle.rod.specs.declared.Rod.{Rod}
+use Rattle.rod.specs.Against.{pastYield, isotropicBelongs, asymmetricBelongs, belongsBy, belongs}
+use Rattle.rod.specs.Steps.{trialOf, outcomeAfter}
+use Rattle.rod.specs.Steady.{Accepted}
+
+past-yield-is : (side : Side) (z : ℤ) → pastYield side z ≡ true → PastYield (side .«yield_stress» .0) z
+past-yield-is side (pos n) e = record { not-negative = refl; past = leb-true (side .«yield_stress» .0) n e }
+past-yield-is side (negsuc n) e = absurd (false≢true e)
+
+isotropic-past : (h : Sheet) (r : Rod) → isotropicBelongs h r ≡ true → PastYield (h .tension .«yield_stress» .0) (r .first .0)
+unfolding isotropicBelongs
+isotropic-past h r e = past-yield-is (h .tension) (r .first .0) (three-hold (pastYield (h .tension) (r .first .0)) _ _ e .0)
+
+-- A state that passes 6 has no abscissa below its yield.
+abscissas-past : (law : Law) (h : Sheet) (r : Rod) → belongsBy law h r ≡ true → AbscissasPast law h (r .first .0) (r .second .0)
+unfolding asymmetricBelongs
+abscissas-past IsotropicLine h r e = isotropic-past h r e
+abscissas-past IsotropicCurve h r e = isotropic-past h r e
+abscissas-past Kinematic h r e = tt
+abscissas-past Asymmetric h r e =
+    let sides = three-hold (pastYield (h .tension) (r .first .0)) (pastYield (h .compression) (r .second .0)) _ (both-hold _ _ e .0) in
+    (past-yield-is (h .tension) (r .first .0) (sides .0), past-yield-is (h .compression) (r .second .0) (sides .1))
+
+pub pair-solved : {h : Sheet} {r : Rod} (accepted : Accepted h r) (p : Pair)
+    → Solved (h .modulus .0) (conditionsUnder (h .law) h (accepted .sound) (r .first .0) (r .second .0) (trialOf h r p)) (outcomeAfter h r p)
+unfolding belongs
+pair-solved {h} {r} accepted p =
+    law-solved h (accepted .sound) (r .first .0) (r .second .0) (trialOf h r p)
+    (abscissas-past (h .law) h r (both-hold (eqb (numberOf (r .law)) (numberOf (h .law))) _ (accepted .belongs) .1))
