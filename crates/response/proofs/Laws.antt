@@ -40,7 +40,8 @@ past-yield : {yield A : ℕ} → yield ≤ A → whole (pos yield) ≤F whole (p
 past-yield {yield} {A} h = is-le (is-whole-one (pos yield)) (is-whole-one (pos A)) .1 (omega arith)
 
 -- Laws 0 and 1.
-pub isotropic-solved : {E : ℕ} (E-pos : 0 < E) {curve : Curve} → CurvePasses E curve → (first second trial : ℤ) → curve .yield ≤ natAbs first
+pub isotropic-solved : {E : ℕ} (E-pos : 0 < E) {curve : Curve} → CurvePasses E curve → (first second trial : ℤ)
+    → curve .yield ≤ natAbs first
     → Solved E (isotropicConditions E E-pos curve trial (natAbs first) second) (inFirst (isotropicMoved E curve first trial) second)
 unfolding isotropicMoved
 isotropic-solved {E} E-pos {curve} good first second trial h =
@@ -50,16 +51,18 @@ isotropic-solved {E} E-pos {curve} good first second trial h =
     let m = isotropic (sideOf E E-pos curve) (whole trial) A in
     let solution = isotropic-solves hardens (whole trial) A past in
     let high = limit-positive hardens past in
-    let passes = Iff·trans (isotropic-rounded hardens (curve-rounded E-pos curve) past trial solution .1) (isotropic-grows hardens past solution) in
-    let branches = branch-passes high high trial (isotropicStored (limitAt E curve) trial (natAbs first) .yielded) (Iff·trans passes (magnitude-passes high trial)) in
+    let stored = isotropicStored (limitAt E curve) trial (natAbs first) in
+    let floor = curve-rounded E-pos curve in
+    let passes = Iff·trans (isotropic-rounded hardens floor past trial solution .1) (isotropic-grows hardens past solution) in
+    let branches = branch-passes high high trial (stored .yielded) (Iff·trans passes (magnitude-passes high trial)) in
     record {
       exists = (record { stress = m .stress; abscissa = m .variable }, solution);
       unique = λ x y s s′. isotropic-unique hardens s s′;
-      rounded = λ x s. (isotropicStored (limitAt E curve) trial (natAbs first) .abscissa, refl, refl, isotropic-rounded hardens (curve-rounded E-pos curve) past trial s .0);
+      rounded = λ x s. (stored .abscissa, refl, refl, isotropic-rounded hardens floor past trial s .0);
       only = λ x s o (a, a-is, second-is, r).
-          let (stress-is, same) = isotropic-rounded-unique r (isotropic-rounded hardens (curve-rounded E-pos curve) past trial s .0) in
+          let (stress-is, same) = isotropic-rounded-unique r (isotropic-rounded hardens floor past trial s .0) in
           (stress-is, a-is ∙ ap pos same, second-is);
-      grows = λ x s. isotropic-rounded hardens (curve-rounded E-pos curve) past trial s .1;
+      grows = λ x s. isotropic-rounded hardens floor past trial s .1;
       passes = passes;
       tension = branches .0;
       compression = branches .1;
@@ -81,7 +84,8 @@ kinematic-solved {E} E-pos {tangent} below {yield} yield-pos first second trial 
     let m = kinematic E tangent E-pos (whole (pos yield)) (whole trial) (whole first) in
     let solution = kinematic-solves {below = below} positive E-pos (whole trial) (whole first) in
     let passes = Iff·trans (kinematic-rounded E-pos yield-pos trial first solution .1) (kinematic-grows positive solution) in
-    let branches = branch-passes positive positive (trial -ℤ first) (kinematicStored E tangent yield trial first .yielded)
+    let stored = kinematicStored E tangent yield trial first in
+    let branches = branch-passes positive positive (trial -ℤ first) (stored .yielded)
     (Iff·trans passes (Iff·trans (less-same (abs-same distance)) (magnitude-passes positive (trial -ℤ first)))) in
     record {
       exists = (record { stress = m .stress; centre = m .variable; growth = absF (whole trial -F m .stress) }, solution);
@@ -94,9 +98,9 @@ kinematic-solved {E} E-pos {tangent} below {yield} yield-pos first second trial 
       passes = passes;
       tension = Iff·trans (branches .0) (less-same (≈F-sym distance));
       compression = Iff·trans (branches .1) (less-same (neg-same (≈F-sym distance)));
-      tangent-still = λ e. rw (branch-still (kinematicStored E tangent yield trial first .yielded) (trial -ℤ first) e);
-      tangent-tension = λ e. rw (branch-flows (kinematicStored E tangent yield trial first .yielded) (trial -ℤ first) 0 e);
-      tangent-compression = λ e. rw (branch-flows (kinematicStored E tangent yield trial first .yielded) (trial -ℤ first) 1 e);
+      tangent-still = λ e. rw (branch-still (stored .yielded) (trial -ℤ first) e);
+      tangent-tension = λ e. rw (branch-flows (stored .yielded) (trial -ℤ first) 0 e);
+      tangent-compression = λ e. rw (branch-flows (stored .yielded) (trial -ℤ first) 1 e);
     }
 
 -- Law 3's outcome has the numbers of flow's `asymmetricStored`.
@@ -108,16 +112,19 @@ pub record AsStored (o : Outcome) (trial : ℤ) (stored : AsymmetricStored) : Ty
   pub second : o .second ≡ pos (stored .compression)
 
 pub asymmetric-as-stored : (E : ℕ) (tension compression : Curve) (first second trial : ℤ) → isNeg first ≡ false → isNeg second ≡ false
-    → AsStored (asymmetricOutcome E tension compression first second trial) trial (asymmetricStored (limitAt E tension) (limitAt E compression) trial (natAbs first) (natAbs second))
+    → AsStored (asymmetricOutcome E tension compression first second trial) trial
+    (asymmetricStored (limitAt E tension) (limitAt E compression) trial (natAbs first) (natAbs second))
 unfolding asymmetricOutcome isotropicMoved isotropicStored asymmetricStored
 asymmetric-as-stored E tension compression first second (pos m) h h′ =
     record { yielded = refl; branch = refl; stress = refl; first = refl; second = sym (not-negative second h′) }
 asymmetric-as-stored E tension compression first second (negsuc m) h h′ =
     record { yielded = refl; branch = refl; stress = refl; first = sym (not-negative first h); second = refl }
 
-asymmetric-tangents : (E : ℕ) (tension compression : Curve) (first second trial : ℤ) → tension .yield ≤ natAbs first → compression .yield ≤ natAbs second
+asymmetric-tangents : (E : ℕ) (tension compression : Curve) (first second trial : ℤ) → tension .yield ≤ natAbs first
+    → compression .yield ≤ natAbs second
     → let o = asymmetricOutcome E tension compression first second trial in
-    (o .branch ≡ 0 → o .tangent ≡ E) × (o .branch ≡ 1 → SegmentTangent E tension (o .first) (o .tangent)) × (o .branch ≡ 2 → SegmentTangent E compression (o .second) (o .tangent))
+    (o .branch ≡ 0 → o .tangent ≡ E) × (o .branch ≡ 1 → SegmentTangent E tension (o .first) (o .tangent))
+    × (o .branch ≡ 2 → SegmentTangent E compression (o .second) (o .tangent))
 unfolding asymmetricOutcome
 asymmetric-tangents E tension compression first second (pos m) h h′ = (
   tangent-still E tension first (pos m),
@@ -135,7 +142,8 @@ either-same e f = (⊎-elim (λ a. inl (e .0 a)) (λ b. inr (f .0 b)), ⊎-elim 
 
 pub asymmetric-solved : {E : ℕ} (E-pos : 0 < E) {tension compression : Curve} → CurvePasses E tension → CurvePasses E compression
     → (first second trial : ℤ) → PastYield (tension .yield) first → PastYield (compression .yield) second
-    → Solved E (asymmetricConditions E E-pos tension compression trial (natAbs first) (natAbs second)) (asymmetricOutcome E tension compression first second trial)
+    → Solved E (asymmetricConditions E E-pos tension compression trial (natAbs first) (natAbs second))
+    (asymmetricOutcome E tension compression first second trial)
 asymmetric-solved {E} E-pos {tension} {compression} good good′ first second trial h h′ =
     let A = whole (pos (natAbs first)) in
     let B = whole (pos (natAbs second)) in
@@ -149,16 +157,24 @@ asymmetric-solved {E} E-pos {tension} {compression} good good′ first second tr
     let same = asymmetric-as-stored E tension compression first second trial (h .not-negative) (h′ .not-negative) in
     let tangents = asymmetric-tangents E tension compression first second trial (h .past) (h′ .past) in
     let grown = asymmetric-grows hardens hardens′ past past′ solution in
-    let passes = Iff·trans (asymmetric-rounded hardens hardens′ (curve-rounded E-pos tension) (curve-rounded E-pos compression) past past′ trial solution .1) (either-same (grown .0) (grown .1)) in
+    let floor = curve-rounded E-pos tension in
+    let floor′ = curve-rounded E-pos compression in
+    let passes = Iff·trans (asymmetric-rounded hardens hardens′ floor floor′ past past′ trial solution .1) (either-same (grown .0) (grown .1)) in
     let branches = branch-passes (limit-positive hardens past) (limit-positive hardens′ past′) trial (stored .yielded) passes in
     record {
       exists = (record { stress = m .stress; tension = m .tension; compression = m .compression }, solution);
       unique = λ x y s s′. asymmetric-unique hardens hardens′ s s′;
-      rounded = λ x s. (stored .tension, stored .compression, same .first, same .second, rw (same .stress) (asymmetric-rounded hardens hardens′ (curve-rounded E-pos tension) (curve-rounded E-pos compression) past past′ trial s .0));
+      rounded = λ x s. (
+        stored .tension,
+        stored .compression,
+        same .first,
+        same .second,
+        rw (same .stress) (asymmetric-rounded hardens hardens′ floor floor′ past past′ trial s .0),
+      );
       only = λ x s o (a, b, a-is, b-is, r).
-          let (stress-is, same-a, same-b) = asymmetric-rounded-unique r (asymmetric-rounded hardens hardens′ (curve-rounded E-pos tension) (curve-rounded E-pos compression) past past′ trial s .0) in
+          let (stress-is, same-a, same-b) = asymmetric-rounded-unique r (asymmetric-rounded hardens hardens′ floor floor′ past past′ trial s .0) in
           (stress-is ∙ sym (same .stress), a-is ∙ ap pos same-a ∙ sym (same .first), b-is ∙ ap pos same-b ∙ sym (same .second));
-      grows = λ x s. rw (same .yielded) (asymmetric-rounded hardens hardens′ (curve-rounded E-pos tension) (curve-rounded E-pos compression) past past′ trial s .1);
+      grows = λ x s. rw (same .yielded) (asymmetric-rounded hardens hardens′ floor floor′ past past′ trial s .1);
       passes = rw (same .yielded) passes;
       tension = rw (same .branch) (branches .0);
       compression = rw (same .branch) (branches .1);
@@ -176,7 +192,8 @@ solved-under IsotropicLine h is sound first second trial past =
 solved-under IsotropicCurve h is sound first second trial past =
     isotropic-solved (sound .modulus-least) (sound-passes (h .modulus .0) (h .tension) (sound .tension)) first second trial (past .past)
 solved-under Kinematic h is sound first second trial past =
-    kinematic-solved (sound .modulus-least) (sound .tension .tangents-below 0 (sound .tension .count-least)) (omega (arith, sound .tension .yield-least)) first second trial
+    kinematic-solved (sound .modulus-least) (sound .tension .tangents-below 0 (sound .tension .count-least))
+    (omega (arith, sound .tension .yield-least)) first second trial
 solved-under Asymmetric h is sound first second trial past =
     asymmetric-solved (sound .modulus-least) (sound-passes (h .modulus .0) (h .tension) (sound .tension))
     (sound-passes (h .modulus .0) (h .compression) (sound .compression is)) first second trial (past .0) (past .1)

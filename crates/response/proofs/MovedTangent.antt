@@ -1,16 +1,17 @@
 -- The tangent that a side leaves: E where it stayed, and where it flowed that of the segment which holds the stored abscissa.
-use Prim.Native.Nat.{ℕ, suc, _+_, _-_, _≤_}
+use Prim.Native.Nat.{ℕ, suc, _≤_}
 use mathlib.Core.Path.{_≡_, refl}
-use mathlib.Core.Bool.{Bool, true, false, cond}
+use mathlib.Core.Bool.{Bool, true, false}
+use native.Mathlib.Decide.{decLe}
 use native.Mathlib.Omega.{arith}
-use lib.Dec.{leb}
+use borrow.Author.Tests.{le-leb, lt-leb}
 use lib.IntN.{ℤ, natAbs}
 use Rattle.refusals.specs.Table.{pick}
 use Rattle.units.specs.Signs.{isNeg}
 use Rattle.curve.specs.Curve.{Curve, limitAt}
 use Rattle.curve.specs.Tangent.{tangentAt}
 use Rattle.curve.proofs.Tangents.{tangent-of-holder, holder-exists}
-use Rattle.flow.specs.Stored.{SideStored, sideStored, isotropicStored}
+use Rattle.flow.specs.Stored.{sideStored, isotropicStored}
 use Rattle.response.specs.Response.{branchOf, isotropicMoved}
 use Rattle.response.specs.Solved.{SegmentTangent}
 
@@ -30,11 +31,11 @@ branch-flows false s n e = absurd (omega (arith, e))
 -- The abscissa never falls.
 abscissa-keeps : (limit : ℕ → ℕ) (trial A : ℕ) → A ≤ sideStored limit trial A .abscissa
 unfolding sideStored
-abscissa-keeps limit trial A = by-test (leb trial (limit A))
+abscissa-keeps limit trial A = go (decLe trial (limit A))
   where
-    by-test : (t : Bool) → A ≤ cond {A = SideStored} t (record { yielded = false; magnitude = trial; abscissa = A }) (record { yielded = true; magnitude = limit (A + (trial - limit A)); abscissa = A + (trial - limit A) }) .abscissa
-    by-test true = omega arith
-    by-test false = omega arith
+    go : Dec (trial ≤ limit A) → A ≤ sideStored limit trial A .abscissa
+    go (yes h) = rw (le-leb trial (limit A) h) (omega arith)
+    go (no h) = rw (lt-leb trial (limit A) (omega arith)) (omega arith)
 
 module _ (E : ℕ) (curve : Curve) (first trial : ℤ) where
   pub tangent-still : isotropicMoved E curve first trial .branch ≡ 0 → isotropicMoved E curve first trial .tangent ≡ E
@@ -47,5 +48,6 @@ module _ (E : ℕ) (curve : Curve) (first trial : ℤ) where
   tangent-of-segment h n e =
       let stored = sideStored (limitAt E curve) (natAbs trial) (natAbs first) in
       let a = stored .abscissa in
-      let (p, m, held) = holder-exists E a (curve .yield) (curve .segments) (omega (arith, abscissa-keeps (limitAt E curve) (natAbs trial) (natAbs first))) in
+      let keeps = abscissa-keeps (limitAt E curve) (natAbs trial) (natAbs first) in
+      let (p, m, held) = holder-exists E a (curve .yield) (curve .segments) (omega arith) in
       (p, m, held, rw (branch-flows (stored .yielded) trial n e) (tangent-of-holder E a (curve .yield) (curve .segments) p m held))

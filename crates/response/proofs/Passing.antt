@@ -25,7 +25,8 @@ module _ {R : Frac} (high : whole (pos 0) <F R) where
   -- The magnitude passes where the trial or its negation does.
   pub magnitude-passes : (s : ℤ) → (R <F absF (whole s)) ↔ ((R <F whole s) ⊎ (R <F negF (whole s)))
   magnitude-passes (pos n) = rw (whole-abs (pos n)) (λ l. inl l, ⊎-elim (λ l. l) (λ l. absurd (not-above-negated n l)))
-  magnitude-passes (negsuc n) = rw (whole-abs (negsuc n), whole-neg (negsuc n)) (λ l. inr l, ⊎-elim (λ l. absurd (not-above-negative n l)) (λ l. l))
+  magnitude-passes (negsuc n) =
+      rw (whole-abs (negsuc n), whole-neg (negsuc n)) (λ l. inr l, ⊎-elim (λ l. absurd (not-above-negative n l)) (λ l. l))
 
 module _ {R R′ : Frac} (high : whole (pos 0) <F R) (high′ : whole (pos 0) <F R′) where
   -- No trial passes both.

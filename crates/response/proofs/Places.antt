@@ -33,7 +33,8 @@ branch-of-sign s false false h e = omega (arith, e)
 branch-of-sign s true true h e = omega (arith, rw h at e)
 branch-of-sign s true false h e = omega (arith, rw h at e)
 
-pub isotropic-branch : (E : ℕ) (curve : Curve) (abscissa trial : ℤ) (negative : Bool) → isNeg trial ≡ negative → isotropicMoved E curve abscissa trial .branch ≡ pick negative 1 2 → ⊥
+pub isotropic-branch : (E : ℕ) (curve : Curve) (abscissa trial : ℤ) (negative : Bool) → isNeg trial ≡ negative
+    → isotropicMoved E curve abscissa trial .branch ≡ pick negative 1 2 → ⊥
 unfolding isotropicMoved
 isotropic-branch E curve abscissa trial negative h e = branch-of-sign trial (isotropicMoved E curve abscissa trial .yielded) negative h e
 
@@ -41,7 +42,8 @@ module _ (h : Sheet) (first second trial : ℤ) where
   abbrev E : ℕ
   E = h .modulus .0
 
-  pub isotropic-response : (r : Response) → IsIsotropic (h .law) → movedMeaning E first trial r ≡ isotropicMoved E (curveOf (h .tension)) first trial
+  pub isotropic-response : (r : Response) → IsIsotropic (h .law)
+      → movedMeaning E first trial r ≡ isotropicMoved E (curveOf (h .tension)) first trial
       → responseMeaning h first second trial r ≡ outcomeOf h first second trial
   unfolding responseMeaning outcomeUnder
   isotropic-response r (inl is) e = rw is (ap (λ (m : Moved). inFirst m second) e)
@@ -65,8 +67,10 @@ module _ (h : Sheet) (first second trial : ℤ) where
       → responseMeaning h first second trial r ≡ outcomeOf h first second trial
   unfolding responseMeaning outcomeUnder asymmetricOutcome movedMeaning
   asymmetric-response Elastic true is s e = rw (is, s) (ap (inSecond first) e)
-  asymmetric-response (Tension f) true is s e = absurd (isotropic-branch E (curveOf (h .compression)) second trial true s (sym (ap (λ (m : Moved). m .branch) e)))
+  asymmetric-response (Tension f) true is s e =
+      absurd (isotropic-branch E (curveOf (h .compression)) second trial true s (sym (ap (λ (m : Moved). m .branch) e)))
   asymmetric-response (Compression f) true is s e = rw (is, s) (ap (inSecond first) e)
   asymmetric-response Elastic false is s e = rw (is, s) (ap (λ (m : Moved). inFirst m second) e)
   asymmetric-response (Tension f) false is s e = rw (is, s) (ap (λ (m : Moved). inFirst m second) e)
-  asymmetric-response (Compression f) false is s e = absurd (isotropic-branch E (curveOf (h .tension)) first trial false s (sym (ap (λ (m : Moved). m .branch) e)))
+  asymmetric-response (Compression f) false is s e =
+      absurd (isotropic-branch E (curveOf (h .tension)) first trial false s (sym (ap (λ (m : Moved). m .branch) e)))

@@ -25,8 +25,9 @@ pub sound-passes : (E : ℕ) (side : Side) → SideSound E side → CurvePasses 
 unfolding curveOf
 sound-passes E side sound =
     let fits : side .count ≤ length (side .segments) = omega (arith, sound .places, sound .count-most) in
+    let below = sound .tangents-below 0 (sound .count-least) in
     record {
       yield-pos = omega (arith, sound .yield-least);
       below = side-below E side fits (sound .count-least) (sound .tangents-below);
-      falling = side-falling E side fits (sound .count-least) (omega (arith, sound .tangents-below 0 (sound .count-least))) (sound .tangents-fall);
+      falling = side-falling E side fits (sound .count-least) (omega arith) (sound .tangents-fall);
     }

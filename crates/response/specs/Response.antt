@@ -36,13 +36,13 @@ pub record Moved : Type 0 where
 -- abscissa, as stored, < end." No abscissa is below 0.
 unfoldable pub isotropicMoved : (E : ℕ) → Curve → (abscissa trial : ℤ) → Moved
 isotropicMoved E curve abscissa trial =
-    let stored = isotropicStored (limitAt E curve) trial (natAbs abscissa) in
+    let side = isotropicStored (limitAt E curve) trial (natAbs abscissa) in
     record {
-      yielded = stored .yielded;
-      branch = branchOf (stored .yielded) trial;
-      stress = stored .stress;
-      variable = pos (stored .abscissa);
-      tangent = pick (stored .yielded) (tangentAt E curve (stored .abscissa)) E;
+      yielded = side .yielded;
+      branch = branchOf (side .yielded) trial;
+      stress = side .stress;
+      variable = pos (side .abscissa);
+      tangent = pick (side .yielded) (tangentAt E curve (side .abscissa)) E;
     }
 
 -- Kinematic: "for law 2, that of its one segment".
@@ -112,7 +112,8 @@ movesSecond Asymmetric (Compression f) = true
 
 unfoldable pub responseMeaning : Sheet → (first second trial : ℤ) → Response → Outcome
 responseMeaning h first second trial r =
-    pick (movesSecond (h .law) r) (inSecond first (movedMeaning (h .modulus .0) second trial r)) (inFirst (movedMeaning (h .modulus .0) first trial r) second)
+    let E = h .modulus .0 in
+    pick (movesSecond (h .law) r) (inSecond first (movedMeaning E second trial r)) (inFirst (movedMeaning E first trial r) second)
 
 -- An abscissa in its range.
 pub record AbscissaRight (z : ℤ) : Type 0 where

@@ -51,7 +51,8 @@ pub record Solved (E : ℕ) (c : Conditions) (o : Outcome) : Type 0 where
   pub unique : (x y : c .Candidate) → c .Meets x → c .Meets y → c .Same x y
   pub rounded : (x : c .Candidate) → c .Meets x → c .Rounds x o
   -- no other numbers are its rounding
-  pub only : (x : c .Candidate) → c .Meets x → (o′ : Outcome) → c .Rounds x o′ → (o′ .stress ≡ o .stress) × (o′ .first ≡ o .first) × (o′ .second ≡ o .second)
+  pub only : (x : c .Candidate) → c .Meets x → (o′ : Outcome) → c .Rounds x o′
+      → (o′ .stress ≡ o .stress) × (o′ .first ≡ o .first) × (o′ .second ≡ o .second)
   pub grows : (x : c .Candidate) → c .Meets x → (o .yielded ≡ true) ↔ c .Grows x
   pub passes : (o .yielded ≡ true) ↔ c .Passes
   pub tension : (o .branch ≡ 1) ↔ c .PassesTension
@@ -79,7 +80,8 @@ isotropicConditions E some curve trial A second =
       Meets = λ x. conditions.Isotropic side (whole trial) (whole (pos A)) (x .stress) (x .abscissa);
       Same = λ x y. (x .stress ≈F y .stress) × (x .abscissa ≈F y .abscissa);
       Grows = λ x. accumulated side (whole (pos A)) <F accumulated side (x .abscissa);
-      Rounds = λ x o. (a : ℕ) × (o .first ≡ pos a) × (o .second ≡ second) × IsotropicRounded side trial A (x .stress) (x .abscissa) (o .stress) a;
+      Rounds = λ x o. (a : ℕ) × (o .first ≡ pos a) × (o .second ≡ second)
+          × IsotropicRounded side trial A (x .stress) (x .abscissa) (o .stress) a;
       Passes = side .limit (whole (pos A)) <F absF (whole trial);
       PassesTension = side .limit (whole (pos A)) <F whole trial;
       PassesCompression = side .limit (whole (pos A)) <F negF (whole trial);
@@ -120,7 +122,8 @@ asymmetricConditions E some curveT curveC trial A B =
     let compression = sideOf E some curveC in
     record {
       Candidate = AsymmetricCandidate;
-      Meets = λ x. conditions.Asymmetric tension compression (whole trial) (whole (pos A)) (whole (pos B)) (x .stress) (x .tension) (x .compression);
+      Meets = λ x. conditions.Asymmetric tension compression (whole trial) (whole (pos A)) (whole (pos B))
+          (x .stress) (x .tension) (x .compression);
       Same = λ x y. (x .stress ≈F y .stress) × (x .tension ≈F y .tension) × (x .compression ≈F y .compression);
       Grows = λ x. (accumulated tension (whole (pos A)) <F accumulated tension (x .tension))
           ⊎ (accumulated compression (whole (pos B)) <F accumulated compression (x .compression));
@@ -140,9 +143,11 @@ conditionsUnder IsotropicLine h sound first second trial =
 conditionsUnder IsotropicCurve h sound first second trial =
     isotropicConditions (h .modulus .0) (sound .modulus-least) (curveOf (h .tension)) trial (natAbs first) second
 conditionsUnder Kinematic h sound first second trial =
-    kinematicConditions (h .modulus .0) (tangentOf (h .tension) 0) (sound .tension .tangents-below 0 (sound .tension .count-least)) (h .tension .«yield_stress» .0) trial first second
+    kinematicConditions (h .modulus .0) (tangentOf (h .tension) 0) (sound .tension .tangents-below 0 (sound .tension .count-least))
+    (h .tension .«yield_stress» .0) trial first second
 conditionsUnder Asymmetric h sound first second trial =
-    asymmetricConditions (h .modulus .0) (sound .modulus-least) (curveOf (h .tension)) (curveOf (h .compression)) trial (natAbs first) (natAbs second)
+    asymmetricConditions (h .modulus .0) (sound .modulus-least) (curveOf (h .tension)) (curveOf (h .compression)) trial
+    (natAbs first) (natAbs second)
 
 -- An abscissa that is not below its yield (what 6 asks).
 pub record PastYield (yield : ℕ) (z : ℤ) : Type 0 where
@@ -154,4 +159,5 @@ abbrev pub AbscissasPast : Law → Sheet → (first second : ℤ) → Type 0
 AbscissasPast IsotropicLine h first second = PastYield (h .tension .«yield_stress» .0) first
 AbscissasPast IsotropicCurve h first second = PastYield (h .tension .«yield_stress» .0) first
 AbscissasPast Kinematic h first second = Unit {0}
-AbscissasPast Asymmetric h first second = PastYield (h .tension .«yield_stress» .0) first × PastYield (h .compression .«yield_stress» .0) second
+AbscissasPast Asymmetric h first second =
+    PastYield (h .tension .«yield_stress» .0) first × PastYield (h .compression .«yield_stress» .0) second

@@ -8,6 +8,7 @@ use units::Magnitude;
 use units::Modulus;
 ghost use mathlib.Core.Path.{_≡_};
 ghost use Prim.Native.Nat.{_+_, _≤_, _<_, _^_};
+ghost use lib.Dec.{ltb};
 ghost use lib.IntN.{natAbs};
 ghost use Rattle.ranges.specs.Ranges.{mostModulus, mostStress};
 ghost use Rattle.curve.specs.Sides.{Readable, curveOf};
@@ -35,6 +36,13 @@ enum SideFlow {
     Moved(Magnitude, Reading),
 }
 
+// The trial passes a limit; equality doesn't.
+fn passes(trial: Magnitude, limit: Magnitude) -> bool
+    ensures { λ r. ⌜ r ≡ ltb (limit .0) (trial .0) ⌝ }
+{
+    limit.below(trial)
+}
+
 // A side flows by the excess of the trial over the yield limit.
 fn side_flow(side: Side, modulus: Modulus, abscissa: Magnitude, trial: Magnitude) -> SideFlow
     requires { ⌜ Readable side modulus ⌝ }
@@ -44,7 +52,7 @@ fn side_flow(side: Side, modulus: Modulus, abscissa: Magnitude, trial: Magnitude
 {
     let before = side.at(modulus, abscissa);
     let limit = before.limit;
-    if trial.at_most(limit) {
+    if !passes(trial, limit) {
         return SideFlow::Still;
     }
     let moved = abscissa.plus(trial.minus(limit));
@@ -52,6 +60,7 @@ fn side_flow(side: Side, modulus: Modulus, abscissa: Magnitude, trial: Magnitude
     SideFlow::Moved(moved, after)
 }
 
+// A flow in one of its two directions.
 fn toward(negative: bool, flowed: Flowed) -> Response
     ensures { λ r. ⌜ r ≡ flowToward negative flowed ⌝ }
 {
@@ -97,7 +106,7 @@ fn kinematic(side: Side, modulus: Modulus, centre: Grain, trial: Grain) -> Respo
     let radius = side.yield_stress;
     let distance = trial.minus(centre);
     let size = distance.magnitude();
-    if size.at_most(radius) {
+    if !passes(size, radius) {
         return Response::Elastic;
     }
     let segment = side.segments[0];

@@ -1,35 +1,49 @@
 use borrow.Author.Needs.{needs}
 use mathlib.Core.Path.{sym, _∙_}
 use mathlib.Core.Bool.{true, false}
+use Rattle.curve.specs.Sides.{Readable}
+use Rattle.response.specs.Response.{AbscissaRight}
 use Rattle.response.proofs.SoundSides.{sound-readable}
 use Rattle.response.proofs.Places.{asymmetric-response}
 use Rattle.response.proofs.asymmetric.Statement.{statement}
 use Rattle.response.proofs.asymmetric.Tie as tie
 
+readable : (s : tie.Start) → let h = s .args .sheet in Readable (h .tension) (h .modulus) × Readable (h .compression) (h .modulus)
+readable s =
+    let h = s .args .sheet in
+    let sound = s .pre .0 .sound in (
+      sound-readable (h .tension) (h .modulus) (sound .tension) (sound .modulus-most),
+      sound-readable (h .compression) (h .modulus) (sound .compression (s .pre .1)) (sound .modulus-most),
+    )
+
+abscissas : (s : tie.Start) → AbscissaRight (s .args .first .0) × AbscissaRight (s .args .second .0)
+abscissas s = rw (s .pre .1) at (s .pre .0 .variables)
+
 isotropic-requires : tie.Need-isotropic-requires
 isotropic-requires c κs =
     let s = c .before .before .before .before in
-    let answerable = s .pre .0 in
-    let law = s .pre .1 in
-    (sound-readable (s .args .sheet .compression) (s .args .sheet .modulus) (answerable .sound .compression law) (answerable .sound .modulus-most), ((rw law at (answerable .variables)) .1, answerable .trial-most))
+    (search (readable s), (abscissas s .1, s .pre .0 .trial-most))
 
 returns : tie.Need-returns
 returns c =
     let then = c .before .before in
     let s = then .before .before .before in
-    asymmetric-response (s .args .sheet) (s .args .first .0) (s .args .second .0) (s .args .trial .0) (c .isotropic .result) true (s .pre .1) (sym (then .before .negative .ensures) ∙ then .if1 .taken) (c .isotropic .ensures)
+    let below = sym (then .before .negative .ensures) ∙ then .if1 .taken in
+    asymmetric-response (s .args .sheet) (s .args .first .0) (s .args .second .0) (s .args .trial .0) (c .isotropic .result) true (s .pre .1)
+    below (c .isotropic .ensures)
 
 isotropic-requires-2 : tie.Need-isotropic-requires-2
 isotropic-requires-2 c κs =
     let s = c .before .before .before .before in
-    let answerable = s .pre .0 in
-    (sound-readable (s .args .sheet .tension) (s .args .sheet .modulus) (answerable .sound .tension) (answerable .sound .modulus-most), ((rw (s .pre .1) at (answerable .variables)) .0, answerable .trial-most))
+    (readable s .0, (abscissas s .0, s .pre .0 .trial-most))
 
 returns-2 : tie.Need-returns-2
 returns-2 c =
     let else = c .before .before in
     let s = else .before .before .before in
-    asymmetric-response (s .args .sheet) (s .args .first .0) (s .args .second .0) (s .args .trial .0) (c .isotropic2 .result) false (s .pre .1) (sym (else .before .negative .ensures) ∙ else .if1 .left) (c .isotropic2 .ensures)
+    let not-below = sym (else .before .negative .ensures) ∙ else .if1 .left in
+    asymmetric-response (s .args .sheet) (s .args .first .0) (s .args .second .0) (s .args .trial .0) (c .isotropic2 .result) false (s .pre .1)
+    not-below (c .isotropic2 .ensures)
 
 pub asymmetric-spec : {M : Type 1} → statement M
 asymmetric-spec =

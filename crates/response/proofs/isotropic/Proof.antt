@@ -1,7 +1,10 @@
-use Prim.Native.Nat.{_^_, _<_}
+use Prim.Native.Nat.{_+_, _^_, _<_}
+use mathlib.Core.Path.{_≡_}
 use native.Mathlib.Omega.{arith}
+use lib.IntN.{natAbs}
 use borrow.Author.Needs.{needs}
 use Rattle.curve.specs.Sides.{curveOf}
+use Rattle.response.specs.Parts.{MovedMost, sideAnswer, sideMeaning}
 use Rattle.response.proofs.Branches.{still-side-elastic, moved-side-flows}
 use Rattle.response.proofs.isotropic.Statement.{statement}
 use Rattle.response.proofs.isotropic.Tie as tie
@@ -11,18 +14,26 @@ side-flow-requires c κs =
     let s = c .before .before .before in
     (s .pre .0, rw (c .magnitude2 .ensures, c .before .magnitude .ensures) (omega (arith, s .pre .1)))
 
+-- What the side answers of the two magnitudes.
+side-answers : (c : tie.After-side-flow) → let a = c .before .before .before .before .args in
+    (sideMeaning (a .modulus .0) (natAbs (a .abscissa .0)) (natAbs (a .trial .0)) (c .side-flow .result)
+    ≡ sideAnswer (a .modulus .0) (curveOf (a .side)) (natAbs (a .abscissa .0)) (natAbs (a .trial .0)))
+    × MovedMost (natAbs (a .abscissa .0) + natAbs (a .trial .0)) (c .side-flow .result)
+side-answers c = rw (c .before .magnitude2 .ensures, c .before .before .magnitude .ensures) at (c .side-flow .ensures)
+
 returns : tie.Need-returns
 returns c =
     let flow = c .before .before in
     let s = flow .before .before .before .before in
-    still-side-elastic (s .args .modulus .0) (curveOf (s .args .side)) (s .args .abscissa .0) (s .args .trial .0) (s .pre .1 .0 .not-negative)
-    (rw (c .enum-told .given .1, flow .before .magnitude2 .ensures, flow .before .before .magnitude .ensures) at (flow .side-flow .ensures .0))
+    let a = s .args in
+    still-side-elastic (a .modulus .0) (curveOf (a .side)) (a .abscissa .0) (a .trial .0) (s .pre .1 .0 .not-negative)
+    (rw (c .enum-told .given .1) at (side-answers flow .0))
 
 moved-most : (c : tie.After-moved) → (c .moved .given .0 .0 .0 < 2 ^ 63) × (c .moved .given .0 .1 .0 .limit .0 < 2 ^ 63)
 moved-most c =
     let flow = c .before .before in
     let s = flow .before .before .before .before in
-    let most = rw (c .moved .given .1, flow .before .magnitude2 .ensures, flow .before .before .magnitude .ensures) at (flow .side-flow .ensures .1) in
+    let most = rw (c .moved .given .1) at (side-answers flow .1) in
     (omega (arith, most .0, s .pre .1), omega (arith, most .1, s .pre .1))
 
 of-requires : tie.Need-of-requires
@@ -38,10 +49,11 @@ returns-2 c =
     let moved = of .before .before .before .before in
     let flow = moved .before .before in
     let negative = flow .before .before .before in
-    let s = negative .before in
+    let a = negative .before .args in
+    let given = moved .moved .given in
     rw (c .toward .ensures, of2 .of2 .ensures .0, of .of .ensures .0, negative .negative .ensures)
-    (moved-side-flows (s .args .modulus .0) (curveOf (s .args .side)) (s .args .abscissa .0) (s .args .trial .0) (moved .moved .given .0 .0) (moved .moved .given .0 .1 .0)
-    (rw (moved .moved .given .1, flow .before .magnitude2 .ensures, flow .before .before .magnitude .ensures) at (flow .side-flow .ensures .0)))
+    (moved-side-flows (a .modulus .0) (curveOf (a .side)) (a .abscissa .0) (a .trial .0) (given .0 .0) (given .0 .1 .0)
+    (rw (given .1) at (side-answers flow .0)))
 
 pub isotropic-spec : {M : Type 1} → statement M
 isotropic-spec =

@@ -1,9 +1,11 @@
 use Prim.Native.Nat.{_+_, _≤_, _<_}
-use mathlib.Core.Path.{_≡_, sym, _∙_}
+use mathlib.Core.Path.{_≡_, sym, _∙_, ap}
+use Rattle.units.specs.declared.Grain.{Grain}
+use Rattle.units.specs.Signs.{isNeg}
 use native.Mathlib.Omega.{arith}
 use lib.IntN.{natAbs, _-ℤ_}
 use borrow.Author.Needs.{needs}
-use borrow.Author.Tests.{leb-true, leb-false}
+use borrow.Author.Tests.{ltb-true, ltb-false, not-true, not-false}
 use Rattle.ranges.specs.Ranges.{mostStress}
 use Rattle.sheet.specs.Sound.{tangentOf}
 use Rattle.response.specs.Response.{mostTrial}
@@ -12,7 +14,7 @@ use Rattle.response.proofs.kinematic.Statement.{statement}
 use Rattle.response.proofs.kinematic.Tie as tie
 
 -- The distance of the trial from the centre.
-size-is : (c : tie.After-magnitude) → let s = c .before .before .before in c .magnitude .result .0 ≡ natAbs (s .args .trial .0 -ℤ s .args .centre .0)
+size-is : (c : tie.After-magnitude) → let a = c .before .before .before .args in c .magnitude .result .0 ≡ natAbs (a .trial .0 -ℤ a .centre .0)
 size-is c = rw (c .magnitude .ensures, c .before .minus .ensures .0)
 
 size-most : (c : tie.After-magnitude) → c .magnitude .result .0 ≤ mostStress + mostTrial
@@ -23,13 +25,16 @@ returns c =
     let size = c .before .before in
     let s = size .before .before .before in
     let radius = s .args .t1 .«yield_stress» .0 in
+    let not-passed = sym (c .before .passes .ensures) ∙ not-true (c .before .passes .result) (c .if1 .taken) in
     within-radius-elastic (s .args .modulus .0) (tangentOf (s .args .t1) 0) radius (s .args .centre .0) (s .args .trial .0)
-    (rw (size-is size) at (leb-true (size .magnitude .result .0) radius (sym (c .before .at-most .ensures) ∙ c .if1 .taken)))
+    (rw (size-is size) at (ltb-false radius (size .magnitude .result .0) not-passed))
 
-passed : (c : tie.Else1) → let size = c .before .before in size .before .before .before .args .t1 .«yield_stress» .0 < size .magnitude .result .0
+passed : (c : tie.Else1) → let size = c .before .before in
+    size .before .before .before .args .t1 .«yield_stress» .0 < size .magnitude .result .0
 passed c =
     let size = c .before .before in
-    leb-false (size .magnitude .result .0) (size .before .before .before .args .t1 .«yield_stress» .0) (sym (c .before .at-most .ensures) ∙ c .if1 .left)
+    ltb-true (size .before .before .before .args .t1 .«yield_stress» .0) (size .magnitude .result .0)
+    (sym (c .before .passes .ensures) ∙ not-false (c .before .passes .result) (c .if1 .left))
 
 minus-requires-2 : tie.Need-minus-requires-2
 minus-requires-2 c κs = omega (arith, passed (c .before .before .before))
@@ -60,7 +65,14 @@ plus-requires-2 : tie.Need-plus-requires-2
 plus-requires-2 c κs =
     let of = c .before .before in
     let s = of .before .before .before .before .before .before .before .before .before .before .before in
-    omega (arith, c .of2 .ensures .1, c .before .plus .ensures .1, of .of .ensures .1, shift-most (of .before), s .pre .1, s .pre .0 .0 .yield-most)
+    let radius = s .pre .0 .0 .yield-most in
+    omega (arith, c .of2 .ensures .1, c .before .plus .ensures .1, of .of .ensures .1, shift-most (of .before), s .pre .1)
+
+negative-is : (c : tie.After-negative) → let a = c .before .before .before .before .before .before .before .before .args in
+    c .negative .result ≡ isNeg (a .trial .0 -ℤ a .centre .0)
+negative-is c =
+    let minus = c .before .before .before .before .before .before in
+    c .negative .ensures ∙ ap (λ (g : Grain). isNeg (g .0)) (minus .minus .ensures .0)
 
 returns-2 : tie.Need-returns-2
 returns-2 c =
@@ -73,10 +85,20 @@ returns-2 c =
     let negative = minus2 .before in
     let else = negative .before .before .before in
     let size = else .before .before in
-    let minus = size .before in
-    let s = minus .before .before in
-    rw (c .toward .ensures, plus2 .plus2 .ensures .0, of2 .of2 .ensures .0, plus .plus .ensures .0, of .of .ensures .0, share .share .ensures .0, minus2 .minus2 .ensures, negative .negative .ensures, size-is size, minus .minus .ensures .0)
-    (past-radius-flows (s .args .modulus .0) (tangentOf (s .args .t1) 0) (s .args .t1 .«yield_stress» .0) (s .args .centre .0) (s .args .trial .0) (rw (size-is size) at (passed else)))
+    let a = size .before .before .before .args in
+    let past = rw (size-is size) at (passed else) in
+    rw (
+      c .toward .ensures,
+      plus2 .plus2 .ensures .0,
+      of2 .of2 .ensures .0,
+      plus .plus .ensures .0,
+      of .of .ensures .0,
+      share .share .ensures .0,
+      minus2 .minus2 .ensures,
+      negative-is negative,
+      size-is size,
+    )
+    (past-radius-flows (a .modulus .0) (tangentOf (a .t1) 0) (a .t1 .«yield_stress» .0) (a .centre .0) (a .trial .0) past)
 
 pub kinematic-spec : {M : Type 1} → statement M
 kinematic-spec =

@@ -29,12 +29,16 @@ isotropic-requires : tie.Need-isotropic-requires
 isotropic-requires c κs =
     let s = c .before .before .before in
     let sound = s .pre .sound in
-    (sound-readable (s .args .sheet .tension) (s .args .sheet .modulus) (sound .tension) (sound .modulus-most), (first-is-abscissa (s .args .first .0) (s .args .second .0) (isotropic-law c) (s .pre .variables), s .pre .trial-most))
+    let h = s .args .sheet in (
+      sound-readable (h .tension) (h .modulus) (sound .tension) (sound .modulus-most),
+      (first-is-abscissa (s .args .first .0) (s .args .second .0) (isotropic-law c) (s .pre .variables), s .pre .trial-most),
+    )
 
 returns : tie.Need-returns
 returns c =
     let s = c .before .before .before .before in
-    isotropic-response (s .args .sheet) (s .args .first .0) (s .args .second .0) (s .args .trial .0) (c .isotropic .result) (isotropic-law (c .before)) (c .isotropic .ensures)
+    isotropic-response (s .args .sheet) (s .args .first .0) (s .args .second .0) (s .args .trial .0) (c .isotropic .result)
+    (isotropic-law (c .before)) (c .isotropic .ensures)
 
 kinematic-requires : tie.Need-kinematic-requires
 kinematic-requires c κs =
@@ -45,7 +49,8 @@ kinematic-requires c κs =
 returns-2 : tie.Need-returns-2
 returns-2 c =
     let s = c .before .before .before .before .before in
-    kinematic-response (s .args .sheet) (s .args .first .0) (s .args .second .0) (s .args .trial .0) (c .kinematic .result) (c .before .enum-told .given .1) (c .kinematic .ensures)
+    kinematic-response (s .args .sheet) (s .args .first .0) (s .args .second .0) (s .args .trial .0) (c .kinematic .result)
+    (c .before .enum-told .given .1) (c .kinematic .ensures)
 
 pub respond-spec : {M : Type 1} → statement M
 respond-spec =
