@@ -3,7 +3,7 @@ use mathlib.Core.Path.{sym, _∙_}
 use mathlib.Core.Bool.{true, false}
 use Rattle.curve.specs.Sides.{Readable}
 use Rattle.response.specs.Response.{AbscissaRight}
-use Rattle.response.proofs.SoundSides.{sound-readable}
+use Rattle.sheet.proofs.SideReadable.{side-readable}
 use Rattle.response.proofs.Places.{asymmetric-response}
 use Rattle.response.proofs.asymmetric.Statement.{statement}
 use Rattle.response.proofs.asymmetric.Tie as tie
@@ -12,8 +12,8 @@ readable : (s : tie.Start) → let h = s .args .sheet in Readable (h .tension) (
 readable s =
     let h = s .args .sheet in
     let sound = s .pre .0 .sound in (
-      sound-readable (h .tension) (h .modulus) (sound .tension) (sound .modulus-most),
-      sound-readable (h .compression) (h .modulus) (sound .compression (s .pre .1)) (sound .modulus-most),
+      side-readable (h .tension) (h .modulus) (sound .modulus-least) (sound .modulus-most) (sound .tension),
+      side-readable (h .compression) (h .modulus) (sound .modulus-least) (sound .modulus-most) (sound .compression (s .pre .1)),
     )
 
 abscissas : (s : tie.Start) → AbscissaRight (s .args .first .0) × AbscissaRight (s .args .second .0)

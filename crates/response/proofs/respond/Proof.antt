@@ -8,7 +8,7 @@ use types.Run.{OneOf}
 use Rattle.law.specs.declared.Law.{Law}
 use Rattle.law.specs.declared.Law.the-variants.{IsotropicLine, IsotropicCurve, Kinematic, Asymmetric}
 use Rattle.law.proofs.Law.{the-type}
-use Rattle.response.proofs.SoundSides.{sound-readable}
+use Rattle.sheet.proofs.SideReadable.{side-readable}
 use Rattle.response.proofs.Places.{IsIsotropic, first-is-abscissa, isotropic-response, kinematic-response}
 use Rattle.response.proofs.respond.Statement.{statement}
 use Rattle.response.proofs.respond.Tie as tie
@@ -30,7 +30,7 @@ isotropic-requires c κs =
     let s = c .before .before .before in
     let sound = s .pre .sound in
     let h = s .args .sheet in (
-      sound-readable (h .tension) (h .modulus) (sound .tension) (sound .modulus-most),
+      side-readable (h .tension) (h .modulus) (sound .modulus-least) (sound .modulus-most) (sound .tension),
       (first-is-abscissa (s .args .first .0) (s .args .second .0) (isotropic-law c) (s .pre .variables), s .pre .trial-most),
     )
 
