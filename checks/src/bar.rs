@@ -1,0 +1,83 @@
+//! Document 01, "The bar without rounding".
+
+use crate::fraction::Fraction;
+use crate::rules::{Law, Pair, Sheet, Side};
+
+/// Fed the sheet and the accepted pairs of a history, nothing else.
+pub struct Bar<'a> {
+    sheet: &'a Sheet,
+    pub strain: Fraction,
+    pub temperature: Fraction,
+    pub stress: Fraction,
+    /// The abscissa (laws 0, 1), X (law 2), the tension abscissa (law 3).
+    pub first: Fraction,
+    /// The compression abscissa (law 3).
+    pub second: Fraction,
+}
+
+impl<'a> Bar<'a> {
+    /// It starts as the unused rod.
+    pub fn new(sheet: &'a Sheet) -> Bar<'a> {
+        let tension = sheet.tension.yield_stress.clone();
+        Bar {
+            sheet,
+            strain: Fraction::zero(),
+            temperature: Fraction::from(sheet.reference),
+            stress: Fraction::zero(),
+            first: if sheet.law == Law::Kinematic { Fraction::zero() } else { tension },
+            second: sheet.compression.as_ref().map_or(Fraction::zero(), |side| side.yield_stress.clone()),
+        }
+    }
+
+    pub fn feed(&mut self, pair: &Pair) {
+        let (change, temperature) = (Fraction::from(pair.change), Fraction::from(pair.temperature));
+        let trial = self.sheet.trial(&self.stress, &change, &self.temperature, &temperature);
+        self.strain = &self.strain + &change;
+        self.temperature = temperature;
+
+        let tension = &self.sheet.tension;
+        match self.sheet.law {
+            Law::Line | Law::Curve => {
+                self.stress = match grow(tension, &mut self.first, &trial.abs()) {
+                    Some(magnitude) => &trial.sign() * &magnitude,
+                    None => trial,
+                };
+            }
+            Law::Kinematic => {
+                let offset = &trial - &self.first;
+                let past = &offset.abs() - &tension.yield_stress;
+                if !past.is_positive() {
+                    self.stress = trial;
+                    return;
+                }
+                let slope = Fraction::ratio(tension.segments[0].tangent, self.sheet.modulus);
+                self.first = &self.first + &(&offset.sign() * &(&past * &slope));
+                self.stress = &self.first + &(&offset.sign() * &tension.yield_stress);
+            }
+            Law::Asymmetric => {
+                let compression = self.sheet.compression.as_ref().unwrap();
+                if let Some(magnitude) = grow(tension, &mut self.first, &trial) {
+                    self.stress = magnitude;
+                } else if let Some(magnitude) = grow(compression, &mut self.second, &-&trial) {
+                    self.stress = -&magnitude;
+                } else {
+                    self.stress = trial;
+                }
+            }
+        }
+    }
+
+    pub fn plastic(&self) -> Fraction {
+        self.sheet.plastic(&self.strain, &self.temperature, &self.stress)
+    }
+}
+
+/// Where `pull` is above T(A), A grows by the difference, and the answer is T at the new A.
+fn grow(side: &Side, abscissa: &mut Fraction, pull: &Fraction) -> Option<Fraction> {
+    let past = pull - &side.limit(abscissa);
+    if !past.is_positive() {
+        return None;
+    }
+    *abscissa = &*abscissa + &past;
+    Some(side.limit(abscissa))
+}

@@ -1,0 +1,466 @@
+//! Calls to try: sheets, states and pairs that pass, the ends of every range,
+//! damaged fields, random bytes, and buffers of wrong lengths.
+//!
+//! The quick version steers: from the state reached so far a pair is chosen
+//! that stays elastic, flows, or meets a limit, a segment's start or the end
+//! of a range exactly. Nothing here says what a call has to answer.
+
+use crate::call::{Call, Entry};
+use crate::layout::{self, Field, PAIR_BYTES, ROW_BYTES, SEGMENT_BYTES, SHEET_BYTES, STATE_BYTES};
+use crate::plain;
+use crate::random::Random;
+
+const STRAIN: i64 = 100_000_000;
+const STRESS: i64 = 100_000_000_000_000;
+const ABSCISSA: i64 = 100_000_000_000_000_000;
+
+// ---- sheets ----
+
+/// A modulus: small ones, those that divide a yield in grains, and any.
+fn modulus(random: &mut Random) -> i64 {
+    match random.below(8) {
+        0 | 1 => random.range(1, 10),
+        2 | 3 => random.pick(&[200_000, 100_000, 400_000, 1_000, 64, 50, 20, 210_000]),
+        4 | 5 => random.spread(1, 400_000),
+        6 => random.range(1, 400_000),
+        _ => random.pick(&[1, 399_999, 400_000]),
+    }
+}
+
+/// A yield, in 10⁻³ MPa: mostly one that strains within the range can reach,
+/// often a multiple of the modulus, so that a whole strain meets a limit exactly.
+fn yield_field(random: &mut Random, modulus: i64) -> i64 {
+    match random.below(10) {
+        0 => random.range(1, 10_000_000),
+        1 => random.pick(&[1, 2, 10_000_000]),
+        2..=4 => (random.range(1, 50) * modulus).min(10_000_000),
+        _ => random.spread(1, (50 * modulus).min(10_000_000)),
+    }
+}
+
+/// Segments that pass, each tangent not above the one before it.
+fn segments(random: &mut Random, modulus: i64, count: usize) -> Vec<[i64; 2]> {
+    let mut greatest = modulus - 1;
+    let mut segments = Vec::new();
+    for i in 0..count {
+        let length = match random.below(10) {
+            _ if i + 1 == count => 0,
+            0 => random.range(1, STRAIN),
+            1 => random.pick(&[1, 2, STRAIN]),
+            _ => random.spread(1, 5_000_000),
+        };
+        let tangent = match random.below(8) {
+            0 | 1 => greatest,
+            2 => 0,
+            3 => (greatest - 1).max(0),
+            4 => random.spread(0, greatest.max(1)).min(greatest),
+            _ => random.range(greatest / 4, greatest),
+        };
+        greatest = tangent;
+        segments.push([length, tangent]);
+    }
+    segments
+}
+
+/// The bytes of a sheet from its fields, whatever they are.
+pub fn sheet_bytes(head: [i64; 9], segments: &[[i64; 2]]) -> Vec<u8> {
+    let mut bytes = layout::write(&layout::SHEET, head);
+    for &segment in segments {
+        bytes.extend(layout::write(&layout::SEGMENT, segment));
+    }
+    bytes
+}
+
+/// A sheet that passes.
+pub fn sheet(random: &mut Random) -> Vec<u8> {
+    let law = random.below(4) as i64;
+    sheet_of_law(random, law)
+}
+
+pub fn sheet_of_law(random: &mut Random, law: i64) -> Vec<u8> {
+    let e = modulus(random);
+    let tensions = if law == 1 { random.range(1, 7) } else { 1 };
+    let compressions = (law == 3) as i64;
+    let expansion = match random.below(5) {
+        0 => random.pick(&[0, 1, 10_000]),
+        1 => random.range(0, 10_000),
+        2 => 1_200,
+        _ => random.spread(0, 10_000),
+    };
+    let reference = match random.below(4) {
+        0 => random.pick(&[-2_000, 20_000]),
+        1 => random.range(-2_000, 20_000),
+        _ => 200,
+    };
+    let tension_yield = yield_field(random, e);
+    let compression_yield = if law == 3 { yield_field(random, e) } else { 0 };
+    let mut all = segments(random, e, tensions as usize);
+    all.extend(segments(random, e, compressions as usize));
+    sheet_bytes([law, tensions, compressions, e, expansion, reference, tension_yield, compression_yield, 0], &all)
+}
+
+// ---- states ----
+
+/// The stresses that a state may have: from the lower limit to the upper one, in whole grains.
+fn limits(sheet: &plain::Sheet, first: i64, second: i64) -> (i64, i64) {
+    match sheet.law {
+        2 => (first - sheet.tension.yield_stress as i64, first + sheet.tension.yield_stress as i64),
+        3 => {
+            let upper = sheet.tension.limit(first as u64, sheet.e) as i64;
+            (-(sheet.compression.limit(second as u64, sheet.e) as i64), upper)
+        }
+        _ => {
+            let upper = sheet.tension.limit(first as u64, sheet.e) as i64;
+            (-upper, upper)
+        }
+    }
+}
+
+/// The start of a segment of the curve that lies ahead of an abscissa.
+fn start_ahead(random: &mut Random, curve: &plain::Curve, abscissa: i64) -> Option<i64> {
+    let ahead: Vec<i64> = curve.start.iter().map(|&start| start as i64).filter(|&start| start > abscissa).collect();
+    (!ahead.is_empty()).then(|| random.pick(&ahead))
+}
+
+fn abscissa(random: &mut Random, curve: &plain::Curve) -> i64 {
+    let least = curve.yield_stress as i64;
+    let start = start_ahead(random, curve, least).unwrap_or(least);
+    match random.below(10) {
+        0 => least,
+        1 => random.range(least, ABSCISSA),
+        2 => ABSCISSA - random.spread(0, ABSCISSA - least),
+        3 => ABSCISSA - random.spread(0, STRESS),
+        4 | 5 => (start + random.range(-2, 2)).max(least),
+        6 => least + random.spread(0, 1_000_000_000),
+        7 => random.range(least, start),
+        _ => random.spread(least, ABSCISSA),
+    }
+}
+
+/// A state that passes on this sheet, reachable or not.
+pub fn any_state(random: &mut Random, sheet: &plain::Sheet) -> Vec<u8> {
+    let first = match sheet.law {
+        2 => {
+            let far = random.range(0, STRESS);
+            let near = random.spread(0, STRESS);
+            random.pick(&[-1, 1]) * random.pick(&[STRESS, far, near])
+        }
+        _ => abscissa(random, &sheet.tension),
+    };
+    let second = if sheet.law == 3 { abscissa(random, &sheet.compression) } else { 0 };
+    let (lowest, highest) = limits(sheet, first, second);
+    let (lower, upper) = (lowest.max(-STRESS), highest.min(STRESS));
+    let inside = random.range(lower, upper);
+    let stress = match random.below(6) {
+        0 => lower,
+        1 => upper,
+        2 => random.spread(lower, upper),
+        3 => {
+            // a whole number of nanos away from a limit or, past it, from a segment's start
+            let start = start_ahead(random, &sheet.tension, first).filter(|_| sheet.law < 2).unwrap_or(first);
+            (inside + (highest + (start - first) - inside) % sheet.e as i64).min(upper)
+        }
+        _ => inside,
+    };
+    let strain = match random.below(6) {
+        0 => random.pick(&[-STRAIN, STRAIN]),
+        1 => random.range(-STRAIN, STRAIN),
+        _ => random.pick(&[-1, 1]) * random.spread(0, STRAIN),
+    };
+    let n = match random.below(6) {
+        0 => u32::MAX as i64 - random.range(0, 3),
+        1 => random.range(0, u32::MAX as i64),
+        _ => random.spread(0, u32::MAX as i64),
+    };
+    let some = random.range(0, n);
+    let k = random.pick(&[0, n, some, 1]).min(n);
+    let yielded = (k >= 1 && random.chance(60)) as i64;
+    let temperature = temperature(random, sheet.reference);
+    let law = sheet.law as i64;
+    layout::write(&layout::STATE, [law, yielded, 0, strain, temperature, stress, first, second, n, k])
+}
+
+pub fn unused_state(sheet: &[u8]) -> Vec<u8> {
+    let mut state = [0; STATE_BYTES];
+    plain::unused(sheet, &mut state);
+    state.to_vec()
+}
+
+// ---- pairs ----
+
+fn temperature(random: &mut Random, now: i64) -> i64 {
+    match random.below(12) {
+        0 => random.range(-2_000, 20_000),
+        1 => random.pick(&[-2_000, 20_000]),
+        2..=4 => (now + random.range(-30, 30)).clamp(-2_000, 20_000),
+        _ => now,
+    }
+}
+
+/// A pair that is to be accepted, from this state.
+pub fn pair(random: &mut Random, sheet: &plain::Sheet, rod: &plain::Rod) -> [i64; 3] {
+    let (lower, upper) = limits(sheet, rod.first, rod.second);
+    let temperature = temperature(random, rod.temperature);
+    let e = sheet.e as i64;
+    // how far past the limit: from a grain to what half the strain range gives
+    let past = random.spread(0, e * STRAIN / 2);
+    let start = start_ahead(random, &sheet.tension, rod.first).filter(|_| sheet.law < 2);
+    let wanted = match (random.below(16), start) {
+        // a segment's start: |s| = start − A + T(A), mostly on the side where the stress is
+        (0..=4, Some(start)) if random.chance(80) == (rod.stress >= 0) => upper + (start - rod.first),
+        (0..=4, Some(start)) => lower - (start - rod.first),
+        (0..=3, _) => random.range(lower, upper),
+        (5..=8, _) => upper + past,
+        (9..=12, _) => lower - past,
+        (13, _) => upper,
+        (14, _) => lower,
+        _ => rod.stress,
+    };
+    let thermal = sheet.a as i64 * (temperature - rod.temperature);
+    let nudge = random.pick(&[0, 0, 0, 0, 1, -1]);
+    let change = (wanted.saturating_sub(rod.stress)).div_euclid(e).saturating_add(thermal + nudge);
+    let mut change = change.clamp(-STRAIN - rod.strain, STRAIN - rod.strain);
+    if random.chance(2) {
+        change = random.pick(&[-STRAIN, STRAIN, 0]) - rod.strain;
+    }
+    [0, change, temperature]
+}
+
+/// A pair that is to be refused with 8 or 9, from this state.
+pub fn bad_pair(random: &mut Random, rod: &plain::Rod) -> [i64; 3] {
+    let change = random.range(-1_000, 1_000);
+    match random.below(7) {
+        0 => [random.range(1, 7), change, rod.temperature],
+        1 => [0, random.pick(&[200_000_001, -200_000_001, (1 << 28) - 1, -(1 << 28)]), rod.temperature],
+        2 => [0, change, random.pick(&[-2_001, 20_001, -32_768, 32_767])],
+        3 => [0, STRAIN + 1 - rod.strain, rod.temperature],
+        4 => [0, -STRAIN - 1 - rod.strain, rod.temperature],
+        5 => {
+            let over = random.spread(1, STRAIN);
+            [0, if rod.strain > 0 { STRAIN + over } else { -STRAIN - over } - rod.strain, rod.temperature]
+        }
+        _ => [random.next() as i64, random.next() as i64, random.next() as i64],
+    }
+}
+
+/// Pairs one after another from a state; `bad` is the place of one that is to be refused.
+pub fn pairs(random: &mut Random, sheet: &[u8], state: &[u8], count: usize, bad: Option<usize>) -> Vec<u8> {
+    let read = plain::Sheet::read(sheet).ok().expect("a sheet that passes");
+    let mut state = state.to_vec();
+    let mut bytes = Vec::new();
+    for i in 0..count {
+        let rod = plain::Rod::read(&state).ok().expect("a state that passes");
+        let values = if bad == Some(i) { bad_pair(random, &rod) } else { pair(random, &read, &rod) };
+        let new = layout::write(&layout::PAIR, values);
+        let (mut row, mut next) = ([0; ROW_BYTES], vec![0; STATE_BYTES]);
+        plain::pair(sheet, &state, &new, &mut row, &mut next);
+        state = next;
+        bytes.extend(new);
+    }
+    bytes
+}
+
+/// A state that some pairs lead to from the unused rod.
+pub fn reached_state(random: &mut Random, sheet: &[u8]) -> Vec<u8> {
+    let state = unused_state(sheet);
+    let count = random.range(1, 12) as usize;
+    let pairs = pairs(random, sheet, &state, count, None);
+    let (mut rows, mut next) = (vec![0; ROW_BYTES * count], vec![0; STATE_BYTES]);
+    plain::run(sheet, &state, &pairs, &mut rows, &mut next);
+    next
+}
+
+// ---- calls ----
+
+/// A run or a single pair on buffers that fit, all their bytes random.
+pub fn with_buffers(random: &mut Random, entry: Entry, sheet: Vec<u8>, state: Vec<u8>, pairs: Vec<u8>) -> Call {
+    let spare = if random.chance(40) { random.below(40) as usize } else { 0 };
+    let rows = random.bytes(pairs.len() / PAIR_BYTES * ROW_BYTES + spare);
+    let next = random.bytes(STATE_BYTES);
+    Call { entry, sheet, state, pairs, rows, next }
+}
+
+/// A call of any entry on a sheet and a state that pass. Of the runs a quarter
+/// holds a pair that is to be refused.
+pub fn valid(random: &mut Random) -> Call {
+    let sheet = sheet(random);
+    let state = match random.below(4) {
+        0 => unused_state(&sheet),
+        1 => reached_state(random, &sheet),
+        _ => any_state(random, &plain::Sheet::read(&sheet).ok().unwrap()),
+    };
+    match random.below(20) {
+        0 => return with_buffers(random, Entry::Forecast, sheet, state, Vec::new()),
+        1 => return with_buffers(random, Entry::Unused, sheet, state, Vec::new()),
+        _ => {}
+    }
+    let count = match random.below(10) {
+        0 => 0,
+        1..=3 => 1,
+        4..=8 => random.range(2, 12),
+        _ => random.range(13, 40),
+    } as usize;
+    let bad = (count > 0 && random.chance(25)).then(|| random.below(count as u64) as usize);
+    let pairs = pairs(random, &sheet, &state, count, bad);
+    let entry = if count == 1 && random.chance(60) { Entry::Pair } else { Entry::Run };
+    with_buffers(random, entry, sheet, state, pairs)
+}
+
+/// Gives a lent buffer or the list another length.
+pub fn wrong_lengths(random: &mut Random, call: &mut Call) {
+    if call.entry == Entry::Unused {
+        call.entry = Entry::Run;
+    }
+    if random.chance(50) {
+        let less = random.pick(&[1, 2, ROW_BYTES, call.rows.len()]).min(call.rows.len());
+        call.rows.truncate(call.rows.len() - less);
+    }
+    if random.chance(50) {
+        let length = random.pick(&[0, 1, STATE_BYTES - 1, STATE_BYTES + 1, 2 * STATE_BYTES, 3]);
+        call.next = random.bytes(length);
+    }
+    if random.chance(25) {
+        let length = random.pick(&[0, 1, 5, 7, 11, 12, 13, call.pairs.len() + 1]);
+        call.pairs.resize(length, 0);
+    }
+}
+
+/// Damages sheet, state or list by a field, a bit, a byte or a length.
+pub fn damage(random: &mut Random, call: &mut Call) {
+    match random.below(12) {
+        0..=2 => set_field(random, &layout::SHEET, &SHEET_ENDS, &mut call.sheet, 0),
+        3 => {
+            let count = (call.sheet.len() - SHEET_BYTES) / SEGMENT_BYTES;
+            let at = SHEET_BYTES + SEGMENT_BYTES * random.below(count as u64) as usize;
+            let e = layout::read(&layout::SHEET, &call.sheet)[3];
+            if random.chance(50) {
+                let [length, tangent] = layout::read(&layout::SEGMENT, &call.sheet[at..]);
+                let tangent = random.pick(&[e - 1, e, e + 1, tangent + 1, tangent - 1, 0]);
+                put(&mut call.sheet, at, layout::write(&layout::SEGMENT, [length, tangent]));
+            } else {
+                set_field(random, &layout::SEGMENT, &SEGMENT_ENDS, &mut call.sheet, at);
+            }
+        }
+        4..=6 => set_field(random, &layout::STATE, &STATE_ENDS, &mut call.state, 0),
+        7 => near_the_sheet(random, call),
+        8 if !call.pairs.is_empty() => {
+            let at = PAIR_BYTES * random.below((call.pairs.len() / PAIR_BYTES) as u64) as usize;
+            set_field(random, &layout::PAIR, &PAIR_ENDS, &mut call.pairs, at);
+        }
+        9 | 10 => {
+            let target = random.below(3);
+            let bytes = [&mut call.sheet, &mut call.state, &mut call.pairs][target as usize].as_mut_slice();
+            if !bytes.is_empty() {
+                let at = random.below(bytes.len() as u64) as usize;
+                bytes[at] ^= if random.chance(70) { 1 << random.below(8) } else { random.next() as u8 };
+            }
+        }
+        _ => {
+            let target = random.below(3);
+            let bytes = [&mut call.sheet, &mut call.state, &mut call.pairs];
+            let bytes = bytes.into_iter().nth(target as usize).unwrap();
+            let length = match random.below(3) {
+                0 => random.below(bytes.len() as u64 + 1) as usize,
+                1 => bytes.len() + random.pick(&[1, 6, 3]),
+                _ => bytes.len().saturating_sub(random.pick(&[1, 6, 3])),
+            };
+            bytes.resize(length, random.next() as u8);
+        }
+    }
+}
+
+/// A state near what the sheet allows: its law, a yield, a limit, or the second variable.
+fn near_the_sheet(random: &mut Random, call: &mut Call) {
+    let (Ok(sheet), Ok(rod)) = (plain::Sheet::read(&call.sheet), plain::Rod::read(&call.state)) else {
+        return;
+    };
+    let (lower, upper) = limits(&sheet, rod.first, rod.second);
+    let mut values = layout::read(&layout::STATE, &call.state);
+    match random.below(5) {
+        0 => values[0] = random.range(0, 3),
+        1 => values[5] = random.pick(&[lower - 1, lower, upper, upper + 1]).clamp(-STRESS, STRESS),
+        2 => values[6] = sheet.tension.yield_stress as i64 + random.range(-1, 1),
+        3 => values[7] = sheet.compression.yield_stress as i64 + random.range(-1, 1),
+        _ => values[7] = random.pick(&[1, -1, i64::MIN, i64::MAX, ABSCISSA]),
+    }
+    call.state = layout::write(&layout::STATE, values);
+}
+
+/// Buffers of random bytes, some with lengths that fit.
+pub fn random_bytes(random: &mut Random) -> Call {
+    let entry = random.pick(&[Entry::Run, Entry::Pair, Entry::Forecast, Entry::Unused]);
+    let length = random.below(100) as usize;
+    let mut sheet = random.bytes(length);
+    if random.chance(60) {
+        sheet = random.bytes(SHEET_BYTES + SEGMENT_BYTES);
+        sheet[0] = 0x08 | sheet[0] & 0xc0;
+        let counts = sheet[0] as usize;
+        sheet.resize(SHEET_BYTES + SEGMENT_BYTES * ((counts >> 3 & 7) + (counts & 7)), 0);
+    }
+    let length = if random.chance(70) { STATE_BYTES } else { random.below(80) as usize };
+    let state = random.bytes(length);
+    let length = random.below(40) as usize * if random.chance(70) { PAIR_BYTES } else { 1 };
+    let pairs = random.bytes(length);
+    let rows = random.below(700) as usize;
+    let rows = random.bytes(rows);
+    let next = if entry == Entry::Unused || random.chance(70) { STATE_BYTES } else { random.below(80) as usize };
+    let next = random.bytes(next);
+    Call { entry, sheet, state, pairs, rows, next }
+}
+
+// ---- the ends of the ranges ----
+
+const FULL: i64 = -1;
+
+/// For each field the ends of its range, what lies beside them, and the ends of the field.
+pub const SHEET_ENDS: [&[i64]; 9] = [
+    &[0, 1, 2, 3],
+    &[0, 1, 2, 3, 4, 5, 6, 7],
+    &[0, 1, 2, 3, 4, 5, 6, 7],
+    &[0, 1, 2, 399_999, 400_000, 400_001, FULL],
+    &[0, 1, 9_999, 10_000, 10_001, FULL],
+    &[-32_768, -2_001, -2_000, -1_999, 0, 19_999, 20_000, 20_001, 32_767],
+    &[0, 1, 2, 9_999_999, 10_000_000, 10_000_001, FULL],
+    &[0, 1, 2, 9_999_999, 10_000_000, 10_000_001, FULL],
+    &[0, 1, 2, 4, 8, 16, 32, FULL],
+];
+
+pub const SEGMENT_ENDS: [&[i64]; 2] =
+    [&[0, 1, 2, 99_999_999, STRAIN, STRAIN + 1, FULL], &[0, 1, 2, 399_999, 400_000, 400_001, FULL]];
+
+pub const STATE_ENDS: [&[i64]; 10] = [
+    &[0, 1, 2, 3],
+    &[0, 1],
+    &[0, 1, 2, 4, 8, 16, FULL],
+    &[-1 << 31, -STRAIN - 1, -STRAIN, 0, STRAIN, STRAIN + 1, (1 << 31) - 1],
+    &[-32_768, -2_001, -2_000, 0, 20_000, 20_001, 32_767],
+    &[-1 << 47, -STRESS - 1, -STRESS, -1, 0, 1, STRESS, STRESS + 1, (1 << 47) - 1],
+    &[i64::MIN, -STRESS - 1, -STRESS, -1, 0, 1, STRESS, STRESS + 1, ABSCISSA, ABSCISSA + 1, i64::MAX],
+    &[i64::MIN, -ABSCISSA, -1, 0, 1, STRESS, ABSCISSA, ABSCISSA + 1, i64::MAX],
+    &[0, 1, 2, (1 << 32) - 2, (1 << 32) - 1],
+    &[0, 1, 2, (1 << 32) - 2, (1 << 32) - 1],
+];
+
+pub const PAIR_ENDS: [&[i64]; 3] = [
+    &[0, 1, 2, 4, FULL],
+    &[-1 << 28, -200_000_001, -200_000_000, -STRAIN - 1, -STRAIN, 0, STRAIN, STRAIN + 1, 200_000_000, 200_000_001, (1 << 28) - 1],
+    &[-32_768, -2_001, -2_000, 0, 20_000, 20_001, 32_767],
+];
+
+fn put(bytes: &mut [u8], at: usize, field: Vec<u8>) {
+    bytes[at..at + field.len()].copy_from_slice(&field);
+}
+
+/// Sets a field to an end of its range or to any value.
+fn set_field<const N: usize>(random: &mut Random, layout: &[Field; N], ends: &[&[i64]; N], bytes: &mut [u8], at: usize) {
+    let field = random.below(N as u64) as usize;
+    let value = if random.chance(75) { random.pick(ends[field]) } else { random.next() as i64 };
+    with_field(layout, bytes, at, field, value);
+}
+
+/// Sets one field of a layout that begins at byte `at`.
+pub fn with_field<const N: usize>(layout: &[Field; N], bytes: &mut [u8], at: usize, field: usize, value: i64) {
+    let mut values = layout::read(layout, &bytes[at..]);
+    values[field] = value;
+    put(bytes, at, layout::write(layout, values));
+}

@@ -1,0 +1,128 @@
+//! Document 01, "Bit layouts": fields one behind another, most significant bit
+//! first, signed ones in two's complement.
+
+pub struct Field {
+    pub name: &'static str,
+    pub width: usize,
+    pub signed: bool,
+}
+
+const fn unsigned(name: &'static str, width: usize) -> Field {
+    Field { name, width, signed: false }
+}
+
+const fn signed(name: &'static str, width: usize) -> Field {
+    Field { name, width, signed: true }
+}
+
+pub const SHEET: [Field; 9] = [
+    unsigned("law", 2),
+    unsigned("tension segments", 3),
+    unsigned("compression segments", 3),
+    unsigned("E", 20),
+    unsigned("expansion", 14),
+    signed("reference temperature", 16),
+    unsigned("tension yield", 24),
+    unsigned("compression yield", 24),
+    unsigned("zero", 6),
+];
+
+pub const SEGMENT: [Field; 2] = [unsigned("length", 28), unsigned("tangent", 20)];
+
+pub const STATE: [Field; 10] = [
+    unsigned("law", 2),
+    unsigned("yielded", 1),
+    unsigned("zero", 5),
+    signed("strain", 32),
+    signed("temperature", 16),
+    signed("stress", 48),
+    signed("first variable", 64),
+    signed("second variable", 64),
+    unsigned("n", 32),
+    unsigned("k", 32),
+];
+
+pub const PAIR: [Field; 3] = [unsigned("kind", 3), signed("strain change", 29), signed("temperature", 16)];
+
+pub const ROW: [Field; 5] = [
+    unsigned("yielded", 1),
+    unsigned("zero", 3),
+    unsigned("tangent", 20),
+    signed("stress", 48),
+    signed("plastic", 56),
+];
+
+pub const SHEET_BYTES: usize = 14;
+pub const SEGMENT_BYTES: usize = 6;
+pub const STATE_BYTES: usize = 37;
+pub const PAIR_BYTES: usize = 6;
+pub const ROW_BYTES: usize = 16;
+
+/// The fields of a layout, read from the first of the bytes on.
+pub fn read<const N: usize>(layout: &[Field; N], bytes: &[u8]) -> [i64; N] {
+    let mut at = 0;
+    let mut values = [0; N];
+    for (field, value) in layout.iter().zip(&mut values) {
+        let mut bits: u64 = 0;
+        for bit in at..at + field.width {
+            bits = bits << 1 | (bytes[bit / 8] >> (7 - bit % 8) & 1) as u64;
+        }
+        at += field.width;
+        let unused = 64 - field.width;
+        *value = if field.signed { (bits << unused) as i64 >> unused } else { bits as i64 };
+    }
+    values
+}
+
+/// The bytes of a layout; of each value its lowest bits, as many as the field has.
+pub fn write<const N: usize>(layout: &[Field; N], values: [i64; N]) -> Vec<u8> {
+    let width: usize = layout.iter().map(|field| field.width).sum();
+    let mut bytes = vec![0; width / 8];
+    let mut at = 0;
+    for (field, value) in layout.iter().zip(values) {
+        for bit in 0..field.width {
+            let set = value >> (field.width - 1 - bit) & 1;
+            bytes[(at + bit) / 8] |= (set as u8) << (7 - (at + bit) % 8);
+        }
+        at += field.width;
+    }
+    bytes
+}
+
+#[cfg(test)]
+mod tests {
+    use super::*;
+    use crate::random::Random;
+
+    #[test]
+    fn lengths() {
+        let bits = |layout: &[Field]| layout.iter().map(|field| field.width).sum::<usize>();
+        assert_eq!(bits(&SHEET), 8 * SHEET_BYTES);
+        assert_eq!(bits(&SEGMENT), 8 * SEGMENT_BYTES);
+        assert_eq!(bits(&STATE), 8 * STATE_BYTES);
+        assert_eq!(bits(&PAIR), 8 * PAIR_BYTES);
+        assert_eq!(bits(&ROW), 8 * ROW_BYTES);
+    }
+
+    #[test]
+    fn read_back() {
+        let mut source = Random::new(5);
+        for _ in 0..20_000 {
+            let bytes = source.bytes(STATE_BYTES);
+            assert_eq!(write(&STATE, read(&STATE, &bytes)), bytes);
+            let bytes = source.bytes(SHEET_BYTES);
+            assert_eq!(write(&SHEET, read(&SHEET, &bytes)), bytes);
+            let bytes = source.bytes(ROW_BYTES);
+            assert_eq!(write(&ROW, read(&ROW, &bytes)), bytes);
+        }
+    }
+
+    #[test]
+    fn most_significant_bit_first() {
+        assert_eq!(write(&PAIR, [0, -1, 1]), [0x1f, 0xff, 0xff, 0xff, 0x00, 0x01]);
+        assert_eq!(write(&PAIR, [5, 1, -2]), [0xa0, 0x00, 0x00, 0x01, 0xff, 0xfe]);
+        assert_eq!(read(&PAIR, &[0xb0, 0x00, 0x00, 0x00, 0x80, 0x00]), [5, -(1 << 28), -32768]);
+        assert_eq!(write(&SEGMENT, [1, 2]), [0x00, 0x00, 0x00, 0x10, 0x00, 0x02]);
+        assert_eq!(write(&ROW, [1, 0, 1, -1, 1])[..4], [0x80, 0x00, 0x01, 0xff]);
+    }
+}

@@ -1,0 +1,23 @@
+//! Evidence beside the proofs: document 01's rules over fractions, written from
+//! that document alone, to be held against the library through its C interface.
+
+pub mod bar;
+pub mod big;
+pub mod call;
+pub mod fraction;
+pub mod generate;
+pub mod layout;
+#[cfg(feature = "library")]
+pub mod library;
+pub mod plain;
+pub mod random;
+pub mod rules;
+
+use call::{Call, Outcome};
+
+/// What is held against the rules: the quick version, and the library where it is linked.
+pub const VERSIONS: &[(&str, fn(&Call) -> Outcome)] = &[
+    ("plain", call::plain),
+    #[cfg(feature = "library")]
+    ("library", library::call),
+];

@@ -1,0 +1,165 @@
+//! The library through its C interface, `include/tie_rod.h`. Every buffer lies
+//! between guard bytes, and what is only read is lent as it is.
+
+use crate::call::{Call, Entry, Outcome};
+
+extern "C" {
+    fn tie_rod_run(
+        sheet: *const u8,
+        sheet_len: usize,
+        state: *const u8,
+        state_len: usize,
+        pairs: *const u8,
+        pairs_len: usize,
+        rows: *mut u8,
+        rows_len: usize,
+        next: *mut u8,
+        next_len: usize,
+    ) -> u64;
+    fn tie_rod_pair(
+        sheet: *const u8,
+        sheet_len: usize,
+        state: *const u8,
+        state_len: usize,
+        pair: *const u8,
+        pair_len: usize,
+        row: *mut u8,
+        row_len: usize,
+        next: *mut u8,
+        next_len: usize,
+    ) -> u64;
+    fn tie_rod_forecast(sheet: *const u8, sheet_len: usize, state: *const u8, state_len: usize) -> u64;
+    fn tie_rod_unused(sheet: *const u8, sheet_len: usize, state: *mut u8) -> u64;
+}
+
+pub fn run(sheet: &[u8], state: &[u8], pairs: &[u8], rows: &mut [u8], next: &mut [u8]) -> u64 {
+    // SAFETY: each pointer has its slice's length, and borrowed slices don't overlap.
+    unsafe {
+        tie_rod_run(
+            sheet.as_ptr(),
+            sheet.len(),
+            state.as_ptr(),
+            state.len(),
+            pairs.as_ptr(),
+            pairs.len(),
+            rows.as_mut_ptr(),
+            rows.len(),
+            next.as_mut_ptr(),
+            next.len(),
+        )
+    }
+}
+
+pub fn pair(sheet: &[u8], state: &[u8], pair: &[u8], row: &mut [u8], next: &mut [u8]) -> u64 {
+    // SAFETY: as for `run`.
+    unsafe {
+        tie_rod_pair(
+            sheet.as_ptr(),
+            sheet.len(),
+            state.as_ptr(),
+            state.len(),
+            pair.as_ptr(),
+            pair.len(),
+            row.as_mut_ptr(),
+            row.len(),
+            next.as_mut_ptr(),
+            next.len(),
+        )
+    }
+}
+
+pub fn forecast(sheet: &[u8], state: &[u8]) -> u64 {
+    // SAFETY: as for `run`.
+    unsafe { tie_rod_forecast(sheet.as_ptr(), sheet.len(), state.as_ptr(), state.len()) }
+}
+
+pub fn unused(sheet: &[u8], state: &mut [u8; 37]) -> u64 {
+    // SAFETY: as for `run`; the state has the 37 bytes that the call writes.
+    unsafe { tie_rod_unused(sheet.as_ptr(), sheet.len(), state.as_mut_ptr()) }
+}
+
+const GUARD: usize = 64;
+
+/// A buffer between guard bytes, at any alignment; an empty one is sometimes NULL.
+struct Guarded {
+    memory: Vec<u8>,
+    start: usize,
+    len: usize,
+}
+
+fn guard_byte(at: usize) -> u8 {
+    (at as u8).wrapping_mul(37) ^ 0xa5
+}
+
+impl Guarded {
+    fn new(bytes: &[u8], shift: usize) -> Guarded {
+        let start = GUARD + shift % 8;
+        let mut memory: Vec<u8> = (0..start + bytes.len() + GUARD).map(guard_byte).collect();
+        memory[start..start + bytes.len()].copy_from_slice(bytes);
+        Guarded { memory, start, len: bytes.len() }
+    }
+
+    fn pointer(&mut self) -> *mut u8 {
+        if self.len == 0 && self.start % 2 == 0 {
+            return std::ptr::null_mut();
+        }
+        self.bytes_mut().as_mut_ptr()
+    }
+
+    fn bytes(&self) -> &[u8] {
+        &self.memory[self.start..self.start + self.len]
+    }
+
+    fn bytes_mut(&mut self) -> &mut [u8] {
+        &mut self.memory[self.start..self.start + self.len]
+    }
+
+    fn untouched_around(&self) -> bool {
+        let inside = self.start..self.start + self.len;
+        self.memory.iter().enumerate().all(|(at, &byte)| inside.contains(&at) || byte == guard_byte(at))
+    }
+}
+
+/// The call by the library. Panics, with the bytes, if it writes anything but
+/// the lent buffers.
+pub fn call(call: &Call) -> Outcome {
+    let shift = call.sheet.len() + call.pairs.len() + call.next.first().map_or(0, |&byte| byte as usize);
+    let mut sheet = Guarded::new(&call.sheet, shift);
+    let mut state = Guarded::new(&call.state, shift / 2);
+    let mut pairs = Guarded::new(&call.pairs, shift / 4);
+    let mut rows = Guarded::new(&call.rows, shift / 8);
+    let mut next = Guarded::new(&call.next, shift / 16);
+    // SAFETY: each buffer is memory of its own, as long as the call is told;
+    // an unused rod's state has 37 bytes.
+    let answer = unsafe {
+        match call.entry {
+            Entry::Run | Entry::Pair => {
+                let entry = if call.entry == Entry::Run { tie_rod_run } else { tie_rod_pair };
+                entry(
+                    sheet.pointer(),
+                    sheet.len,
+                    state.pointer(),
+                    state.len,
+                    pairs.pointer(),
+                    pairs.len,
+                    rows.pointer(),
+                    rows.len,
+                    next.pointer(),
+                    next.len,
+                )
+            }
+            Entry::Forecast => tie_rod_forecast(sheet.pointer(), sheet.len, state.pointer(), state.len),
+            Entry::Unused => {
+                assert_eq!(next.len, 37);
+                tie_rod_unused(sheet.pointer(), sheet.len, next.pointer())
+            }
+        }
+    };
+    for buffer in [&sheet, &state, &pairs, &rows, &next] {
+        assert!(buffer.untouched_around(), "a byte outside the buffers was written\n{call}");
+    }
+    for (buffer, given) in [(&sheet, &call.sheet), (&state, &call.state), (&pairs, &call.pairs)] {
+        assert!(buffer.bytes() == &given[..], "a byte that is only read was written\n{call}");
+    }
+    Outcome { answer, rows: rows.bytes().to_vec(), next: next.bytes().to_vec() }
+}

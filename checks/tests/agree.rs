@@ -1,0 +1,380 @@
+//! Calls by the rules over fractions, by the quick version and by the library:
+//! number, place and every byte of every buffer are the same.
+
+use checks::call::{difference, shortest, Call, Entry};
+use checks::fraction::Fraction;
+use checks::generate;
+use checks::layout::{self, PAIR_BYTES, SHEET_BYTES, STATE_BYTES};
+use checks::random::Random;
+use checks::rules::{self, Flow, Law};
+use checks::VERSIONS;
+
+const VALID: usize = 400_000;
+const DAMAGED: usize = 300_000;
+const RANDOM: usize = 100_000;
+const WRONG_LENGTHS: usize = 100_000;
+const _: () = assert!(VALID + DAMAGED + RANDOM + WRONG_LENGTHS >= 300_000);
+
+/// How often each number was answered, by entry.
+#[derive(Default)]
+struct Tally {
+    numbers: [[usize; 13]; 4],
+}
+
+impl Tally {
+    /// Compares the versions on a call, and counts its number.
+    fn compare(&mut self, call: &Call) {
+        let wanted = rules::call(call);
+        for (name, version) in VERSIONS {
+            if difference(&wanted, &version(call)).is_some() {
+                let call = shortest(call, |call| rules::call(call) != version(call));
+                let text = difference(&rules::call(&call), &version(&call)).unwrap();
+                panic!("{name} differs from the rules\n{call}{text}");
+            }
+        }
+        self.numbers[call.entry as usize][wanted.number() as usize] += 1;
+    }
+
+    fn of(&self, entry: Entry) -> &[usize; 13] {
+        &self.numbers[entry as usize]
+    }
+
+    /// Each of these numbers was answered by that entry, at least so often; 11 never.
+    fn assert_seen(&self, entry: Entry, numbers: &[usize], least: usize) {
+        for &number in numbers {
+            assert!(self.of(entry)[number] >= least, "{entry:?} answered {number} seldom: {:?}", self.numbers);
+        }
+        assert_eq!(self.of(entry)[11], 0);
+    }
+}
+
+#[test]
+fn valid_calls() {
+    let mut random = Random::new(100);
+    let mut tally = Tally::default();
+    let mut seen = Seen::default();
+    for i in 0..VALID {
+        let call = generate::valid(&mut random);
+        tally.compare(&call);
+        if i % 5 == 0 {
+            seen.walk(&call);
+        }
+    }
+    tally.assert_seen(Entry::Run, &[0, 8, 9, 10], VALID / 100);
+    tally.assert_seen(Entry::Pair, &[0, 8, 9, 10], VALID / 1_000);
+    tally.assert_seen(Entry::Forecast, &[0], VALID / 100);
+    tally.assert_seen(Entry::Unused, &[0], VALID / 100);
+    if std::env::var_os("CHECKS_PRINT").is_some() {
+        println!("{:?}\n{seen:#?}", tally.numbers);
+    }
+    seen.assert_all();
+}
+
+#[test]
+fn damaged_calls() {
+    let mut random = Random::new(101);
+    let mut tally = Tally::default();
+    for _ in 0..DAMAGED {
+        let mut call = generate::valid(&mut random);
+        generate::damage(&mut random, &mut call);
+        if random.chance(10) {
+            generate::wrong_lengths(&mut random, &mut call);
+        }
+        tally.compare(&call);
+    }
+    let each = [1, 2, 3, 4, 5, 6, 7, 8, 9, 10, 12];
+    tally.assert_seen(Entry::Run, &each, 200);
+    tally.assert_seen(Entry::Pair, &each, 20);
+    tally.assert_seen(Entry::Forecast, &[0, 1, 2, 3, 4, 5, 6], 20);
+    tally.assert_seen(Entry::Unused, &[0, 1, 2, 3], 20);
+}
+
+#[test]
+fn random_calls() {
+    let mut random = Random::new(102);
+    let mut tally = Tally::default();
+    for _ in 0..RANDOM {
+        let mut call = generate::random_bytes(&mut random);
+        // A sheet that passes, and then a state that does, lead past the first refusals.
+        if random.chance(60) {
+            call.sheet = generate::sheet(&mut random);
+        }
+        if random.chance(30) {
+            call.state = generate::unused_state(&call.sheet);
+        }
+        tally.compare(&call);
+    }
+    tally.assert_seen(Entry::Run, &[1, 2, 4, 5, 7, 8, 12], 10);
+}
+
+#[test]
+fn wrong_lengths() {
+    let mut random = Random::new(103);
+    let mut tally = Tally::default();
+    for _ in 0..WRONG_LENGTHS {
+        let mut call = generate::valid(&mut random);
+        generate::wrong_lengths(&mut random, &mut call);
+        tally.compare(&call);
+    }
+    tally.assert_seen(Entry::Run, &[0, 7, 12], 1_000);
+    tally.assert_seen(Entry::Pair, &[7, 12], 1_000);
+}
+
+/// Every field of sheet, segment, state and pair at each end of its range and
+/// beside it, on calls of every law that are accepted otherwise.
+#[test]
+fn ends_of_every_range() {
+    let mut random = Random::new(104);
+    let mut tally = Tally::default();
+    for round in 0..40 {
+        let sheet = generate::sheet_of_law(&mut random, round % 4);
+        let state = if round < 20 {
+            generate::unused_state(&sheet)
+        } else {
+            generate::reached_state(&mut random, &sheet)
+        };
+        let pairs = generate::pairs(&mut random, &sheet, &state, 3, None);
+        let call = generate::with_buffers(&mut random, Entry::Run, sheet, state, pairs);
+        tally.compare(&call);
+
+        let mut each = |call: &Call| {
+            for entry in [Entry::Run, Entry::Pair, Entry::Forecast, Entry::Unused] {
+                let pairs = if entry == Entry::Pair { &call.pairs[..PAIR_BYTES] } else { &call.pairs };
+                tally.compare(&Call { entry, pairs: pairs.to_vec(), ..call.clone() });
+            }
+        };
+        for (field, ends) in generate::SHEET_ENDS.iter().enumerate() {
+            for &end in *ends {
+                let mut call = call.clone();
+                generate::with_field(&layout::SHEET, &mut call.sheet, 0, field, end);
+                each(&call);
+                // With its length mended the sheet passes 1, and the fields are seen.
+                let counts = call.sheet[0] as usize;
+                call.sheet.resize(SHEET_BYTES + 6 * ((counts >> 3 & 7) + (counts & 7)), 0);
+                each(&call);
+            }
+        }
+        for at in (SHEET_BYTES..call.sheet.len()).step_by(6) {
+            let e = layout::read(&layout::SHEET, &call.sheet)[3];
+            for (field, ends) in generate::SEGMENT_ENDS.iter().enumerate() {
+                for &end in ends.iter().chain(&[e - 1, e, e + 1]) {
+                    let mut call = call.clone();
+                    generate::with_field(&layout::SEGMENT, &mut call.sheet, at, field, end);
+                    each(&call);
+                }
+            }
+        }
+        for (field, ends) in generate::STATE_ENDS.iter().enumerate() {
+            for &end in *ends {
+                let mut call = call.clone();
+                generate::with_field(&layout::STATE, &mut call.state, 0, field, end);
+                each(&call);
+            }
+        }
+        for at in (0..call.pairs.len()).step_by(PAIR_BYTES) {
+            for (field, ends) in generate::PAIR_ENDS.iter().enumerate() {
+                for &end in *ends {
+                    let mut call = call.clone();
+                    generate::with_field(&layout::PAIR, &mut call.pairs, at, field, end);
+                    each(&call);
+                }
+            }
+        }
+    }
+    let each = [0, 1, 2, 3, 5, 6, 8, 9];
+    tally.assert_seen(Entry::Run, &each, 20);
+}
+
+/// Runs of 4,096 pairs, and lists a byte or a pair longer.
+#[test]
+fn long_runs() {
+    let mut random = Random::new(105);
+    let mut tally = Tally::default();
+    for law in 0..4 {
+        for round in 0..3 {
+            let sheet = generate::sheet_of_law(&mut random, law);
+            let state = generate::unused_state(&sheet);
+            let bad = Some(random.below(4_096) as usize).filter(|_| round == 2);
+            let pairs = generate::pairs(&mut random, &sheet, &state, 4_096, bad);
+            let call = generate::with_buffers(&mut random, Entry::Run, sheet, state, pairs);
+            tally.compare(&call);
+            for more in [1, 5, 6, 7, 12] {
+                let mut call = call.clone();
+                call.pairs.resize(call.pairs.len() + more, 0);
+                call.rows.resize(call.rows.len() + 64, 0xee);
+                tally.compare(&call);
+            }
+            let mut call = call;
+            call.rows.truncate(16 * 4_096 - 1);
+            tally.compare(&call);
+        }
+    }
+    tally.assert_seen(Entry::Run, &[0, 7, 12], 4);
+}
+
+/// Empty buffers in every combination.
+#[test]
+fn empty_buffers() {
+    let mut random = Random::new(106);
+    let mut tally = Tally::default();
+    for _ in 0..50 {
+        let call = generate::valid(&mut random);
+        for empty in 0..32 {
+            let unless = |bit: usize, bytes: &Vec<u8>| if empty >> bit & 1 == 1 { Vec::new() } else { bytes.clone() };
+            for entry in [Entry::Run, Entry::Pair, Entry::Forecast] {
+                tally.compare(&Call {
+                    entry,
+                    sheet: unless(0, &call.sheet),
+                    state: unless(1, &call.state),
+                    pairs: unless(2, &call.pairs),
+                    rows: unless(3, &call.rows),
+                    next: unless(4, &call.next),
+                });
+            }
+        }
+    }
+    tally.assert_seen(Entry::Run, &[0, 1, 4, 12], 10);
+}
+
+/// The library against the quick version alone, over many more calls.
+#[cfg(feature = "library")]
+#[test]
+fn many_quick_calls() {
+    let mut random = Random::new(107);
+    for i in 0..1_000_000 {
+        let mut call = generate::valid(&mut random);
+        if i % 4 == 0 {
+            generate::damage(&mut random, &mut call);
+        }
+        let (wanted, got) = (checks::call::plain(&call), checks::library::call(&call));
+        if let Some(text) = difference(&wanted, &got) {
+            panic!("the library differs from the quick version\n{call}{text}");
+        }
+    }
+}
+
+/// What the pairs of the valid calls met, so that no case is missed unnoticed.
+#[derive(Debug, Default)]
+struct Seen {
+    pairs: usize,
+    accepted: usize,
+    /// By law: elastic, tension, compression.
+    flows: [[usize; 3]; 4],
+    /// By law: trials that meet a limit exactly.
+    at_limit: [usize; 4],
+    /// New abscissas that are the start of a segment behind the first.
+    at_start: usize,
+    /// Flows into each segment of law 1.
+    segments: [usize; 7],
+    /// Pairs that change the temperature and flow.
+    thermal: usize,
+    /// Flows whose exact abscissa or centre isn't whole.
+    rounded: usize,
+    /// 10 by stress, centre, abscissa, n.
+    ranges: [usize; 4],
+}
+
+impl Seen {
+    fn walk(&mut self, call: &Call) {
+        if call.entry == Entry::Forecast || call.entry == Entry::Unused {
+            return;
+        }
+        let sheet = rules::read_sheet(&call.sheet).unwrap();
+        let mut state = rules::read_state(&call.state).unwrap();
+        let law = sheet.law as usize;
+        for bytes in call.pairs.chunks(PAIR_BYTES) {
+            self.pairs += 1;
+            let Ok(pair) = rules::read_pair(bytes) else { return };
+            let old = state.numbers();
+            let (before, after) = (Fraction::from(state.temperature), Fraction::from(pair.temperature));
+            let trial = sheet.trial(&old.stress, &Fraction::from(pair.change), &before, &after);
+            let (exact, flow) = rules::solution(&sheet, &old, &trial).unwrap();
+            let stored = rules::rounded(&sheet, &old, (&exact, flow));
+            match rules::step(&sheet, &state, &pair) {
+                Ok((new, _)) => {
+                    self.accepted += 1;
+                    self.flows[law][flow as usize] += 1;
+                    self.thermal += (flow != Flow::None && state.temperature != pair.temperature) as usize;
+                    self.rounded += (flow != Flow::None && exact != stored) as usize;
+                    self.meet(&sheet, &old, &trial, flow, &stored);
+                    state = new;
+                }
+                Err(10) => {
+                    let beyond = |value: &Fraction, end: i64| value.abs() > Fraction::from(end);
+                    self.ranges[0] += beyond(&stored.stress, rules::STRESS) as usize;
+                    let first = if sheet.law == Law::Kinematic { rules::STRESS } else { rules::ABSCISSA };
+                    let which = if sheet.law == Law::Kinematic { 1 } else { 2 };
+                    self.ranges[which] += beyond(&stored.first, first) as usize;
+                    self.ranges[2] += beyond(&stored.second, rules::ABSCISSA) as usize;
+                    self.ranges[3] += (state.n == rules::COUNT) as usize;
+                    return;
+                }
+                Err(_) => return,
+            }
+        }
+    }
+
+    fn meet(&mut self, sheet: &rules::Sheet, old: &rules::Numbers, trial: &Fraction, flow: Flow, new: &rules::Numbers) {
+        let law = sheet.law as usize;
+        let exactly = match sheet.law {
+            Law::Line | Law::Curve => trial.abs() == sheet.tension.limit(&old.first),
+            Law::Kinematic => (trial - &old.first).abs() == sheet.tension.yield_stress,
+            Law::Asymmetric => {
+                let compression = sheet.compression.as_ref().unwrap().limit(&old.second);
+                *trial == sheet.tension.limit(&old.first) || -trial == compression
+            }
+        };
+        self.at_limit[law] += exactly as usize;
+        if sheet.law == Law::Curve && flow != Flow::None {
+            let at = sheet.tension.segments.iter().rposition(|segment| segment.start <= new.first).unwrap();
+            self.segments[at] += 1;
+            self.at_start += (at > 0 && sheet.tension.segments[at].start == new.first) as usize;
+        }
+    }
+
+    fn assert_all(&self) {
+        assert!(self.accepted * 10 >= self.pairs * 6, "{self:#?}");
+        for law in 0..4 {
+            assert!(self.flows[law].iter().all(|&count| count >= 1_000), "{self:#?}");
+            assert!(self.at_limit[law] >= 500, "{self:#?}");
+        }
+        assert!(self.segments.iter().all(|&count| count >= 200), "{self:#?}");
+        assert!(self.at_start >= 1_000 && self.thermal >= 5_000 && self.rounded >= 5_000, "{self:#?}");
+        assert!(self.ranges.iter().all(|&count| count >= 100), "{self:#?}");
+    }
+}
+
+#[test]
+fn a_state_of_any_length() {
+    let mut random = Random::new(108);
+    let mut tally = Tally::default();
+    let sheet = generate::sheet(&mut random);
+    for length in 0..=2 * STATE_BYTES {
+        let mut state = generate::unused_state(&sheet);
+        state.resize(length, 0);
+        let call = generate::with_buffers(&mut random, Entry::Run, sheet.clone(), state, Vec::new());
+        tally.compare(&call);
+        tally.compare(&Call { entry: Entry::Forecast, ..call });
+    }
+    assert_eq!(tally.of(Entry::Run)[4], 2 * STATE_BYTES);
+    assert_eq!(tally.of(Entry::Forecast)[4], 2 * STATE_BYTES);
+}
+
+#[test]
+fn a_sheet_of_any_length() {
+    let mut random = Random::new(109);
+    let mut tally = Tally::default();
+    for counts in 0..=255 {
+        for length in 0..=100 {
+            let mut sheet = generate::sheet(&mut random);
+            sheet.resize(length, 0);
+            if let Some(byte) = sheet.first_mut() {
+                *byte = counts;
+            }
+            let state = random.bytes(STATE_BYTES);
+            let call = generate::with_buffers(&mut random, Entry::Unused, sheet, state, Vec::new());
+            tally.compare(&call);
+        }
+    }
+    tally.assert_seen(Entry::Unused, &[1, 2], 100);
+}

@@ -1,0 +1,124 @@
+//! Document 01, "Loops on the board": every row, by the rules, by the quick
+//! version and by the library.
+
+use checks::call::{difference, Call, Entry, Outcome};
+use checks::fraction::Fraction;
+use checks::generate::sheet_bytes;
+use checks::layout;
+use checks::rules::{self, Row};
+use checks::VERSIONS;
+
+/// E 200,000, yield 200,000, a 1,200, with this law and these segments.
+fn board_sheet(law: i64, compression_yield: i64, segments: &[[i64; 2]]) -> Vec<u8> {
+    let compressions = (law == 3) as i64;
+    let tensions = segments.len() as i64 - compressions;
+    sheet_bytes([law, tensions, compressions, 200_000, 1_200, 200, 200_000, compression_yield, 0], segments)
+}
+
+fn line(law: i64) -> Vec<u8> {
+    board_sheet(law, 0, &[[0, 2_000]])
+}
+
+/// A run from the unused rod: what it leaves, the same by every version.
+fn run(sheet: &[u8], changes: &[(i64, i64)]) -> (Outcome, Vec<Row>, Vec<u8>) {
+    let unused = Call {
+        entry: Entry::Unused,
+        sheet: sheet.to_vec(),
+        state: Vec::new(),
+        pairs: Vec::new(),
+        rows: Vec::new(),
+        next: vec![0xee; 37],
+    };
+    let state = same(&unused).next;
+    let pairs = changes.iter().flat_map(|&(change, temperature)| layout::write(&layout::PAIR, [0, change, temperature]));
+    let call = Call {
+        entry: Entry::Run,
+        sheet: sheet.to_vec(),
+        state: state.clone(),
+        pairs: pairs.collect(),
+        rows: vec![0xee; 16 * changes.len()],
+        next: vec![0xee; 37],
+    };
+    let outcome = same(&call);
+    let rows = outcome.rows.chunks(16).take(outcome.accepted(&call.pairs)).map(Row::read).collect();
+    (outcome, rows, state)
+}
+
+fn same(call: &Call) -> Outcome {
+    let wanted = rules::call(call);
+    for (name, version) in VERSIONS {
+        if let Some(text) = difference(&wanted, &version(call)) {
+            panic!("{name} differs from the rules\n{call}{text}");
+        }
+    }
+    wanted
+}
+
+/// The stresses of an accepted run at the reference temperature.
+fn stresses(sheet: &[u8], changes: &[i64]) -> Vec<(i64, bool)> {
+    let changes: Vec<(i64, i64)> = changes.iter().map(|&change| (change, 200)).collect();
+    let (outcome, rows, _) = run(sheet, &changes);
+    assert_eq!(outcome.answer, 0);
+    rows.iter().map(|row| (row.stress, row.yielded)).collect()
+}
+
+#[test]
+fn isotropic_line() {
+    assert_eq!(stresses(&line(0), &[1_000_000]), [(200_000_000_000, false)]);
+    assert_eq!(stresses(&line(0), &[1_000_001]), [(200_000_002_000, true)]);
+    assert_eq!(stresses(&line(0), &[1_500_000, -3_000_000]), [(201_000_000_000, true), (-202_980_000_000, true)]);
+}
+
+#[test]
+fn third_row_as_printed() {
+    let (_, rows, _) = run(&line(0), &[(1_500_000, 200), (-3_000_000, 200)]);
+    let row = |stress, plastic| Row { yielded: true, tangent: 2_000, stress, plastic };
+    assert_eq!(rows, [row(201_000_000_000, 99_000_000_000), row(-202_980_000_000, -97_020_000_000)]);
+}
+
+#[test]
+fn kinematic() {
+    assert_eq!(stresses(&line(2), &[1_500_000, -3_000_000]), [(201_000_000_000, true), (-201_000_000_000, true)]);
+}
+
+#[test]
+fn asymmetric() {
+    let sheet = board_sheet(3, 250_000, &[[0, 2_000], [0, 2_000]]);
+    assert_eq!(stresses(&sheet, &[1_500_000, -3_000_000])[1], (-251_490_000_000, true));
+}
+
+#[test]
+fn heated() {
+    let (outcome, rows, _) = run(&line(0), &[(0, 300)]);
+    assert_eq!((outcome.answer, rows[0].stress), (0, -24_000_000_000));
+}
+
+#[test]
+fn curve() {
+    let sheet = board_sheet(1, 0, &[[500_000, 20_000], [0, 2_000]]);
+    for (change, stress) in [(1_500_000, 210_000_000_000), (2_000_000, 211_000_000_000)] {
+        let (outcome, rows, _) = run(&sheet, &[(change, 200)]);
+        assert_eq!((outcome.answer, rows[0].stress, rows[0].tangent), (0, stress, 2_000));
+    }
+}
+
+#[test]
+fn a_third_of_a_grain() {
+    let sheet = sheet_bytes([0, 1, 0, 3, 1_200, 200, 1, 0, 0], &[[0, 1]]);
+    assert_eq!(stresses(&sheet, &[333_334]), [(1_000_000, true)]);
+    let sheet = rules::read_sheet(&sheet).unwrap();
+    let exact = rules::solution(&sheet, &rules::unused(&sheet).numbers(), &Fraction::from(3 * 333_334));
+    assert_eq!(exact.unwrap().0.stress, Fraction::ratio(3_000_002, 3));
+}
+
+#[test]
+fn empty_list() {
+    let (outcome, rows, old) = run(&line(0), &[]);
+    assert_eq!((outcome.answer, rows.len(), outcome.next), (0, 0, old));
+}
+
+#[test]
+fn ends_of_the_strain_change() {
+    assert_eq!(run(&line(0), &[(200_000_000, 200)]).0.answer, 9 + 256);
+    assert_eq!(run(&line(0), &[(200_000_001, 200)]).0.answer, 8 + 256);
+}
