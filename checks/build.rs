@@ -16,7 +16,10 @@ fn main() {
     };
     println!("cargo:rerun-if-changed={}", archive.display());
     let Ok(archive) = archive.canonicalize() else {
-        panic!("{} isn't there: `rt staticlib tie_rod_c` writes it; --no-default-features does without", archive.display());
+        panic!(
+            "{} isn't there: `rt staticlib tie_rod_c` writes it; --no-default-features does without",
+            archive.display()
+        );
     };
     let name = archive.file_stem().and_then(|name| name.to_str()).and_then(|name| name.strip_prefix("lib"));
     println!("cargo:rustc-link-search=native={}", archive.parent().unwrap().display());

@@ -61,9 +61,13 @@ pub fn hex(bytes: &[u8]) -> String {
 impl fmt::Display for Call {
     fn fmt(&self, f: &mut fmt::Formatter) -> fmt::Result {
         writeln!(f, "call   {:?}", self.entry)?;
-        for (name, bytes) in
-            [("sheet", &self.sheet), ("state", &self.state), ("pairs", &self.pairs), ("rows", &self.rows), ("next", &self.next)]
-        {
+        for (name, bytes) in [
+            ("sheet", &self.sheet),
+            ("state", &self.state),
+            ("pairs", &self.pairs),
+            ("rows", &self.rows),
+            ("next", &self.next),
+        ] {
             writeln!(f, "{name:6} {} bytes {}", bytes.len(), hex(bytes))?;
         }
         Ok(())

@@ -9,6 +9,8 @@ use crate::call::{Call, Entry};
 use crate::layout::{self, Field, PAIR_BYTES, ROW_BYTES, SEGMENT_BYTES, SHEET_BYTES, STATE_BYTES};
 use crate::plain;
 use crate::random::Random;
+use crate::rules;
+use crate::steer::{Piece, Rod, Steel};
 
 const STRAIN: i64 = 100_000_000;
 const STRESS: i64 = 100_000_000_000_000;
@@ -79,6 +81,19 @@ pub fn sheet(random: &mut Random) -> Vec<u8> {
 
 pub fn sheet_of_law(random: &mut Random, law: i64) -> Vec<u8> {
     let e = modulus(random);
+    let (tension_yield, compression_yield) = (yield_field(random, e), yield_field(random, e));
+    sheet_with(random, law, e, tension_yield, compression_yield)
+}
+
+/// A sheet of a modulus from 1 to 10 and of the smallest yields.
+pub fn small_sheet(random: &mut Random, law: i64) -> Vec<u8> {
+    let (tension_yield, compression_yield) = (random.range(1, 3), random.range(1, 3));
+    let e = random.range(1, 10);
+    sheet_with(random, law, e, tension_yield, compression_yield)
+}
+
+/// A sheet that passes, with this modulus and these yields; the other fields are random.
+fn sheet_with(random: &mut Random, law: i64, e: i64, tension_yield: i64, compression_yield: i64) -> Vec<u8> {
     let tensions = if law == 1 { random.range(1, 7) } else { 1 };
     let compressions = (law == 3) as i64;
     let expansion = match random.below(5) {
@@ -92,8 +107,7 @@ pub fn sheet_of_law(random: &mut Random, law: i64) -> Vec<u8> {
         1 => random.range(-2_000, 20_000),
         _ => 200,
     };
-    let tension_yield = yield_field(random, e);
-    let compression_yield = if law == 3 { yield_field(random, e) } else { 0 };
+    let compression_yield = if law == 3 { compression_yield } else { 0 };
     let mut all = segments(random, e, tensions as usize);
     all.extend(segments(random, e, compressions as usize));
     sheet_bytes([law, tensions, compressions, e, expansion, reference, tension_yield, compression_yield, 0], &all)
@@ -101,29 +115,14 @@ pub fn sheet_of_law(random: &mut Random, law: i64) -> Vec<u8> {
 
 // ---- states ----
 
-/// The stresses that a state may have: from the lower limit to the upper one, in whole grains.
-fn limits(sheet: &plain::Sheet, first: i64, second: i64) -> (i64, i64) {
-    match sheet.law {
-        2 => (first - sheet.tension.yield_stress as i64, first + sheet.tension.yield_stress as i64),
-        3 => {
-            let upper = sheet.tension.limit(first as u64, sheet.e) as i64;
-            (-(sheet.compression.limit(second as u64, sheet.e) as i64), upper)
-        }
-        _ => {
-            let upper = sheet.tension.limit(first as u64, sheet.e) as i64;
-            (-upper, upper)
-        }
-    }
-}
-
 /// The start of a segment of the curve that lies ahead of an abscissa.
-fn start_ahead(random: &mut Random, curve: &plain::Curve, abscissa: i64) -> Option<i64> {
-    let ahead: Vec<i64> = curve.start.iter().map(|&start| start as i64).filter(|&start| start > abscissa).collect();
+fn start_ahead(random: &mut Random, curve: &[Piece], abscissa: i64) -> Option<i64> {
+    let ahead: Vec<i64> = curve.iter().map(|piece| piece.start).filter(|&start| start > abscissa).collect();
     (!ahead.is_empty()).then(|| random.pick(&ahead))
 }
 
-fn abscissa(random: &mut Random, curve: &plain::Curve) -> i64 {
-    let least = curve.yield_stress as i64;
+fn abscissa(random: &mut Random, curve: &[Piece]) -> i64 {
+    let least = curve[0].start;
     let start = start_ahead(random, curve, least).unwrap_or(least);
     match random.below(10) {
         0 => least,
@@ -138,17 +137,17 @@ fn abscissa(random: &mut Random, curve: &plain::Curve) -> i64 {
 }
 
 /// A state that passes on this sheet, reachable or not.
-pub fn any_state(random: &mut Random, sheet: &plain::Sheet) -> Vec<u8> {
-    let first = match sheet.law {
+pub fn any_state(random: &mut Random, steel: &Steel) -> Vec<u8> {
+    let first = match steel.law {
         2 => {
             let far = random.range(0, STRESS);
             let near = random.spread(0, STRESS);
             random.pick(&[-1, 1]) * random.pick(&[STRESS, far, near])
         }
-        _ => abscissa(random, &sheet.tension),
+        _ => abscissa(random, &steel.tension),
     };
-    let second = if sheet.law == 3 { abscissa(random, &sheet.compression) } else { 0 };
-    let (lowest, highest) = limits(sheet, first, second);
+    let second = if steel.law == 3 { abscissa(random, &steel.compression) } else { 0 };
+    let (lowest, highest) = steel.limits(first, second);
     let (lower, upper) = (lowest.max(-STRESS), highest.min(STRESS));
     let inside = random.range(lower, upper);
     let stress = match random.below(6) {
@@ -157,8 +156,8 @@ pub fn any_state(random: &mut Random, sheet: &plain::Sheet) -> Vec<u8> {
         2 => random.spread(lower, upper),
         3 => {
             // a whole number of nanos away from a limit or, past it, from a segment's start
-            let start = start_ahead(random, &sheet.tension, first).filter(|_| sheet.law < 2).unwrap_or(first);
-            (inside + (highest + (start - first) - inside) % sheet.e as i64).min(upper)
+            let start = start_ahead(random, &steel.tension, first).filter(|_| steel.law < 2).unwrap_or(first);
+            (inside + (highest + (start - first) - inside) % steel.e).min(upper)
         }
         _ => inside,
     };
@@ -175,9 +174,8 @@ pub fn any_state(random: &mut Random, sheet: &plain::Sheet) -> Vec<u8> {
     let some = random.range(0, n);
     let k = random.pick(&[0, n, some, 1]).min(n);
     let yielded = (k >= 1 && random.chance(60)) as i64;
-    let temperature = temperature(random, sheet.reference);
-    let law = sheet.law as i64;
-    layout::write(&layout::STATE, [law, yielded, 0, strain, temperature, stress, first, second, n, k])
+    let temperature = temperature(random, steel.reference);
+    layout::write(&layout::STATE, [steel.law, yielded, 0, strain, temperature, stress, first, second, n, k])
 }
 
 pub fn unused_state(sheet: &[u8]) -> Vec<u8> {
@@ -198,13 +196,13 @@ fn temperature(random: &mut Random, now: i64) -> i64 {
 }
 
 /// A pair that is to be accepted, from this state.
-pub fn pair(random: &mut Random, sheet: &plain::Sheet, rod: &plain::Rod) -> [i64; 3] {
-    let (lower, upper) = limits(sheet, rod.first, rod.second);
+pub fn pair(random: &mut Random, steel: &Steel, rod: &Rod) -> [i64; 3] {
+    let (lower, upper) = steel.limits(rod.first, rod.second);
     let temperature = temperature(random, rod.temperature);
-    let e = sheet.e as i64;
+    let e = steel.e;
     // how far past the limit: from a grain to what half the strain range gives
     let past = random.spread(0, e * STRAIN / 2);
-    let start = start_ahead(random, &sheet.tension, rod.first).filter(|_| sheet.law < 2);
+    let start = start_ahead(random, &steel.tension, rod.first).filter(|_| steel.law < 2);
     let wanted = match (random.below(16), start) {
         // a segment's start: |s| = start − A + T(A), mostly on the side where the stress is
         (0..=4, Some(start)) if random.chance(80) == (rod.stress >= 0) => upper + (start - rod.first),
@@ -216,7 +214,7 @@ pub fn pair(random: &mut Random, sheet: &plain::Sheet, rod: &plain::Rod) -> [i64
         (14, _) => lower,
         _ => rod.stress,
     };
-    let thermal = sheet.a as i64 * (temperature - rod.temperature);
+    let thermal = steel.a * (temperature - rod.temperature);
     let nudge = random.pick(&[0, 0, 0, 0, 1, -1]);
     let change = (wanted.saturating_sub(rod.stress)).div_euclid(e).saturating_add(thermal + nudge);
     let mut change = change.clamp(-STRAIN - rod.strain, STRAIN - rod.strain);
@@ -226,8 +224,23 @@ pub fn pair(random: &mut Random, sheet: &plain::Sheet, rod: &plain::Rod) -> [i64
     [0, change, temperature]
 }
 
+/// A pair that flows, on either side, by little or much.
+pub fn flowing_pair(random: &mut Random, steel: &Steel, rod: &Rod) -> [i64; 3] {
+    let (lower, upper) = steel.limits(rod.first, rod.second);
+    let e = steel.e;
+    // as far as the strain allows, either way
+    let (highest, lowest) = ((STRAIN - rod.strain) * e + rod.stress, (-STRAIN - rod.strain) * e + rod.stress);
+    // mostly by little, so that the limits stay within reach of the strain
+    let way = if random.chance(2) { STRAIN / 4 } else { random.pick(&[1, 2, 100, 10_000]) };
+    let past = random.range(1, e * way);
+    let up = if random.chance(90) { rod.stress <= 0 } else { random.chance(50) };
+    let wanted = if up && highest > upper || lowest >= lower { upper + past } else { lower - past };
+    let change = (wanted.clamp(lowest, highest) - rod.stress).div_euclid(e) + up as i64;
+    [0, change.clamp(-STRAIN - rod.strain, STRAIN - rod.strain), rod.temperature]
+}
+
 /// A pair that is to be refused with 8 or 9, from this state.
-pub fn bad_pair(random: &mut Random, rod: &plain::Rod) -> [i64; 3] {
+pub fn bad_pair(random: &mut Random, rod: &Rod) -> [i64; 3] {
     let change = random.range(-1_000, 1_000);
     match random.below(7) {
         0 => [random.range(1, 7), change, rod.temperature],
@@ -245,12 +258,26 @@ pub fn bad_pair(random: &mut Random, rod: &plain::Rod) -> [i64; 3] {
 
 /// Pairs one after another from a state; `bad` is the place of one that is to be refused.
 pub fn pairs(random: &mut Random, sheet: &[u8], state: &[u8], count: usize, bad: Option<usize>) -> Vec<u8> {
-    let read = plain::Sheet::read(sheet).ok().expect("a sheet that passes");
+    pairs_by(random, pair, sheet, state, count, bad)
+}
+
+type NextPair = fn(&mut Random, &Steel, &Rod) -> [i64; 3];
+
+/// Pairs, each chosen by `choose` from the state reached before it.
+pub fn pairs_by(
+    random: &mut Random,
+    choose: NextPair,
+    sheet: &[u8],
+    state: &[u8],
+    count: usize,
+    bad: Option<usize>,
+) -> Vec<u8> {
+    let steel = Steel::read(sheet);
     let mut state = state.to_vec();
     let mut bytes = Vec::new();
     for i in 0..count {
-        let rod = plain::Rod::read(&state).ok().expect("a state that passes");
-        let values = if bad == Some(i) { bad_pair(random, &rod) } else { pair(random, &read, &rod) };
+        let rod = Rod::read(&state);
+        let values = if bad == Some(i) { bad_pair(random, &rod) } else { choose(random, &steel, &rod) };
         let new = layout::write(&layout::PAIR, values);
         let (mut row, mut next) = ([0; ROW_BYTES], vec![0; STATE_BYTES]);
         plain::pair(sheet, &state, &new, &mut row, &mut next);
@@ -287,7 +314,7 @@ pub fn valid(random: &mut Random) -> Call {
     let state = match random.below(4) {
         0 => unused_state(&sheet),
         1 => reached_state(random, &sheet),
-        _ => any_state(random, &plain::Sheet::read(&sheet).ok().unwrap()),
+        _ => any_state(random, &Steel::read(&sheet)),
     };
     match random.below(20) {
         0 => return with_buffers(random, Entry::Forecast, sheet, state, Vec::new()),
@@ -371,16 +398,17 @@ pub fn damage(random: &mut Random, call: &mut Call) {
 
 /// A state near what the sheet allows: its law, a yield, a limit, or the second variable.
 fn near_the_sheet(random: &mut Random, call: &mut Call) {
-    let (Ok(sheet), Ok(rod)) = (plain::Sheet::read(&call.sheet), plain::Rod::read(&call.state)) else {
+    if rules::read_sheet(&call.sheet).is_err() || rules::read_state(&call.state).is_err() {
         return;
-    };
-    let (lower, upper) = limits(&sheet, rod.first, rod.second);
+    }
+    let (steel, rod) = (Steel::read(&call.sheet), Rod::read(&call.state));
+    let (lower, upper) = steel.limits(rod.first, rod.second);
     let mut values = layout::read(&layout::STATE, &call.state);
     match random.below(5) {
         0 => values[0] = random.range(0, 3),
         1 => values[5] = random.pick(&[lower - 1, lower, upper, upper + 1]).clamp(-STRESS, STRESS),
-        2 => values[6] = sheet.tension.yield_stress as i64 + random.range(-1, 1),
-        3 => values[7] = sheet.compression.yield_stress as i64 + random.range(-1, 1),
+        2 => values[6] = steel.tension[0].start + random.range(-1, 1),
+        3 => values[7] = steel.compression.first().map_or(0, |piece| piece.start) + random.range(-1, 1),
         _ => values[7] = random.pick(&[1, -1, i64::MIN, i64::MAX, ABSCISSA]),
     }
     call.state = layout::write(&layout::STATE, values);
@@ -443,7 +471,19 @@ pub const STATE_ENDS: [&[i64]; 10] = [
 
 pub const PAIR_ENDS: [&[i64]; 3] = [
     &[0, 1, 2, 4, FULL],
-    &[-1 << 28, -200_000_001, -200_000_000, -STRAIN - 1, -STRAIN, 0, STRAIN, STRAIN + 1, 200_000_000, 200_000_001, (1 << 28) - 1],
+    &[
+        -1 << 28,
+        -200_000_001,
+        -200_000_000,
+        -STRAIN - 1,
+        -STRAIN,
+        0,
+        STRAIN,
+        STRAIN + 1,
+        200_000_000,
+        200_000_001,
+        (1 << 28) - 1,
+    ],
     &[-32_768, -2_001, -2_000, 0, 20_000, 20_001, 32_767],
 ];
 
@@ -452,7 +492,13 @@ fn put(bytes: &mut [u8], at: usize, field: Vec<u8>) {
 }
 
 /// Sets a field to an end of its range or to any value.
-fn set_field<const N: usize>(random: &mut Random, layout: &[Field; N], ends: &[&[i64]; N], bytes: &mut [u8], at: usize) {
+fn set_field<const N: usize>(
+    random: &mut Random,
+    layout: &[Field; N],
+    ends: &[&[i64]; N],
+    bytes: &mut [u8],
+    at: usize,
+) {
     let field = random.below(N as u64) as usize;
     let value = if random.chance(75) { random.pick(ends[field]) } else { random.next() as i64 };
     with_field(layout, bytes, at, field, value);

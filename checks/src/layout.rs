@@ -44,13 +44,8 @@ pub const STATE: [Field; 10] = [
 
 pub const PAIR: [Field; 3] = [unsigned("kind", 3), signed("strain change", 29), signed("temperature", 16)];
 
-pub const ROW: [Field; 5] = [
-    unsigned("yielded", 1),
-    unsigned("zero", 3),
-    unsigned("tangent", 20),
-    signed("stress", 48),
-    signed("plastic", 56),
-];
+pub const ROW: [Field; 5] =
+    [unsigned("yielded", 1), unsigned("zero", 3), unsigned("tangent", 20), signed("stress", 48), signed("plastic", 56)];
 
 pub const SHEET_BYTES: usize = 14;
 pub const SEGMENT_BYTES: usize = 6;

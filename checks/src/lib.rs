@@ -9,9 +9,11 @@ pub mod generate;
 pub mod layout;
 #[cfg(feature = "library")]
 pub mod library;
+pub mod log;
 pub mod plain;
 pub mod random;
 pub mod rules;
+pub mod steer;
 
 use call::{Call, Outcome};
 

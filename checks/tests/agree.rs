@@ -128,11 +128,8 @@ fn ends_of_every_range() {
     let mut tally = Tally::default();
     for round in 0..40 {
         let sheet = generate::sheet_of_law(&mut random, round % 4);
-        let state = if round < 20 {
-            generate::unused_state(&sheet)
-        } else {
-            generate::reached_state(&mut random, &sheet)
-        };
+        let state =
+            if round < 20 { generate::unused_state(&sheet) } else { generate::reached_state(&mut random, &sheet) };
         let pairs = generate::pairs(&mut random, &sheet, &state, 3, None);
         let call = generate::with_buffers(&mut random, Entry::Run, sheet, state, pairs);
         tally.compare(&call);

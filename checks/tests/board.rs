@@ -30,7 +30,8 @@ fn run(sheet: &[u8], changes: &[(i64, i64)]) -> (Outcome, Vec<Row>, Vec<u8>) {
         next: vec![0xee; 37],
     };
     let state = same(&unused).next;
-    let pairs = changes.iter().flat_map(|&(change, temperature)| layout::write(&layout::PAIR, [0, change, temperature]));
+    let pairs =
+        changes.iter().flat_map(|&(change, temperature)| layout::write(&layout::PAIR, [0, change, temperature]));
     let call = Call {
         entry: Entry::Run,
         sheet: sheet.to_vec(),

@@ -28,7 +28,8 @@ fn sheet(random: &mut Random) -> Sheet {
 /// Old numbers within their limits; fractions, as the bar without rounding has them.
 fn old_numbers(random: &mut Random, sheet: &Sheet) -> Numbers {
     let over = random.pick(&[1, 1, sheet.modulus, 3]);
-    let grown = |random: &mut Random, side: &Side| &side.yield_stress + &Fraction::ratio(random.range(0, 12 * over), over);
+    let grown =
+        |random: &mut Random, side: &Side| &side.yield_stress + &Fraction::ratio(random.range(0, 12 * over), over);
     let zero = Fraction::zero();
     let (first, second) = match sheet.law {
         Law::Kinematic => (Fraction::ratio(random.range(-6 * over, 6 * over), over), zero),

@@ -1,1 +1,122 @@
-fn main() {}
+//! The proved library through its C interface against the quick version in
+//! plain 64-bit Rust, on the same bytes: nanoseconds a pair, and the ratio
+//! plain / proved, above 1 where the proved one is faster.
+
+use checks::generate::{self, sheet_bytes};
+use checks::layout;
+use checks::random::Random;
+use checks::{library, plain};
+use std::hint::black_box;
+use std::time::Instant;
+
+const PAIRS: usize = 4_096;
+const ROUNDS: usize = 25;
+const RUNS_A_ROUND: usize = 20;
+
+type Carry = fn(&[u8], &[u8], &[u8], &mut [u8], &mut [u8]) -> u64;
+
+/// Strain cycles past both limits, in even steps, while the rod warms and cools.
+fn cycles() -> Vec<u8> {
+    let mut strain = 0;
+    let mut bytes = Vec::new();
+    for i in 0..PAIRS as i64 {
+        let phase = i % 128;
+        let wanted = if phase < 64 { 125_000 * (phase - 32) } else { 125_000 * (96 - phase) };
+        let temperature = 200 + (i / 16) % 64;
+        bytes.extend(layout::write(&layout::PAIR, [0, wanted - strain, temperature]));
+        strain = wanted;
+    }
+    bytes
+}
+
+/// Pairs whose branches can't be foretold: some elastic, some flowing either way.
+fn mixed(sheet: &[u8]) -> Vec<u8> {
+    let mut random = Random::new(1);
+    let mut state = generate::unused_state(sheet);
+    let mut bytes = Vec::new();
+    while bytes.len() < 6 * PAIRS {
+        let change = random.range(-4_000_000, 4_000_000);
+        let pair = layout::write(&layout::PAIR, [0, change, 200 + random.range(0, 50)]);
+        let (mut row, mut next) = ([0; 16], [0; 37]);
+        if plain::pair(sheet, &state, &pair, &mut row, &mut next) == 0 {
+            state = next.to_vec();
+            bytes.extend(pair);
+        }
+    }
+    bytes
+}
+
+/// A run of the whole list at once.
+fn whole(run: Carry, sheet: &[u8], state: &[u8], pairs: &[u8], rows: &mut [u8], next: &mut [u8]) {
+    assert_eq!(run(black_box(sheet), black_box(state), black_box(pairs), rows, next), 0);
+}
+
+/// The same list by single pairs, each from the state that the last one handed back.
+fn single(pair: Carry, sheet: &[u8], state: &[u8], pairs: &[u8], rows: &mut [u8], next: &mut [u8]) {
+    let mut state: [u8; 37] = state.try_into().unwrap();
+    for (bytes, row) in pairs.chunks(6).zip(rows.chunks_mut(16)) {
+        assert_eq!(pair(black_box(sheet), black_box(&state), black_box(bytes), row, next), 0);
+        state.copy_from_slice(next);
+    }
+}
+
+type Way = fn(Carry, &[u8], &[u8], &[u8], &mut [u8], &mut [u8]);
+
+/// The least nanoseconds a pair of each version, taken in turns, and what it left.
+fn measure(way: Way, versions: [Carry; 2], sheet: &[u8], pairs: &[u8]) -> [f64; 2] {
+    let state = generate::unused_state(sheet);
+    let mut least = [f64::INFINITY; 2];
+    let mut left = [(vec![0; 16 * PAIRS], vec![0; 37]), (vec![0; 16 * PAIRS], vec![0; 37])];
+    for _ in 0..ROUNDS {
+        for (which, version) in versions.into_iter().enumerate() {
+            let (rows, next) = &mut left[which];
+            let start = Instant::now();
+            for _ in 0..RUNS_A_ROUND {
+                way(black_box(version), sheet, &state, pairs, rows, next);
+            }
+            let nanoseconds = start.elapsed().as_nanos() as f64 / (RUNS_A_ROUND * PAIRS) as f64;
+            least[which] = least[which].min(nanoseconds);
+        }
+    }
+    assert!(left[0] == left[1], "the two versions leave different bytes");
+    least
+}
+
+fn main() {
+    let steel = |law, compressions, segments: &[[i64; 2]]| {
+        let tensions = segments.len() as i64 - compressions;
+        let compression_yield = if law == 3 { 250_000 } else { 0 };
+        sheet_bytes([law, tensions, compressions, 200_000, 1_200, 200, 200_000, compression_yield, 0], segments)
+    };
+    let seven: Vec<[i64; 2]> = (0..7).map(|i| [if i < 6 { 40_000_000 } else { 0 }, 14_000 - 2_000 * i]).collect();
+    let sheets = [
+        ("law 0", steel(0, 0, &[[0, 2_000]])),
+        ("law 1, 1 segment", steel(1, 0, &[[0, 2_000]])),
+        ("law 1, 7 segments", steel(1, 0, &seven)),
+        ("law 2", steel(2, 0, &[[0, 2_000]])),
+        ("law 3", steel(3, 1, &[[0, 2_000], [0, 2_000]])),
+    ];
+    println!("{PAIRS} pairs, nanoseconds a pair, the least of {ROUNDS} rounds; ratio plain / proved");
+    println!("buffers are allocated once and not cleared between calls");
+    println!("{:42} {:>6} {:>8} {:>8} {:>6}", "", "flows", "proved", "plain", "ratio");
+    let ways: [(&str, Way, [Carry; 2]); 2] =
+        [("whole run", whole, [library::run, plain::run]), ("single pairs", single, [library::pair, plain::pair])];
+    for (way_name, way, versions) in ways {
+        for (sheet_name, sheet) in &sheets {
+            for (input, pairs) in [("cycles", cycles()), ("mixed", mixed(sheet))] {
+                let [proved, quick] = measure(way, versions, sheet, &pairs);
+                let label = format!("{way_name}, {sheet_name}, {input}");
+                let flows = flows(sheet, &pairs);
+                println!("{label:42} {flows:>4} % {proved:8.2} {quick:8.2} {:6.2}", quick / proved);
+            }
+        }
+    }
+}
+
+/// Of a hundred pairs, how many flow.
+fn flows(sheet: &[u8], pairs: &[u8]) -> i64 {
+    let (mut rows, mut next) = (vec![0; 16 * PAIRS], [0; 37]);
+    plain::run(sheet, &generate::unused_state(sheet), pairs, &mut rows, &mut next);
+    let [.., k] = layout::read(&layout::STATE, &next);
+    100 * k / PAIRS as i64
+}

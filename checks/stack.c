@@ -1,0 +1,157 @@
+/*
+ * The library's peak stack: each call runs on a stack of its own that was
+ * painted before, and the paint that is left tells how deep it went. Fails
+ * above 8 KiB. For Linux on x86-64 with glibc.
+ */
+#include "tie_rod.h"
+
+#include <stdio.h>
+#include <stdlib.h>
+#include <string.h>
+#include <ucontext.h>
+
+#define STACK_BYTES (256 * 1024)
+#define MOST_BYTES (8 * 1024)
+
+static uint8_t stack[STACK_BYTES];
+static uint8_t sheet[TIE_ROD_SHEET_BYTES_MAX];
+static size_t sheet_len;
+static uint8_t state[TIE_ROD_STATE_BYTES];
+static uint8_t pairs[TIE_ROD_PAIRS_MAX * TIE_ROD_PAIR_BYTES];
+static uint8_t rows[TIE_ROD_PAIRS_MAX * TIE_ROD_ROW_BYTES];
+static uint8_t next[TIE_ROD_STATE_BYTES];
+static uint64_t answer;
+
+static void nothing(void) {}
+
+static void run(void)
+{
+    answer = tie_rod_run(sheet, sheet_len, state, sizeof state, pairs, sizeof pairs, rows, sizeof rows, next, sizeof next);
+}
+
+static void pair(void)
+{
+    answer = tie_rod_pair(sheet, sheet_len, state, sizeof state, pairs, TIE_ROD_PAIR_BYTES, rows, TIE_ROD_ROW_BYTES,
+                          next, sizeof next);
+}
+
+static void forecast(void)
+{
+    answer = tie_rod_forecast(sheet, sheet_len, state, sizeof state);
+}
+
+static void unused(void)
+{
+    answer = tie_rod_unused(sheet, sheet_len, state);
+}
+
+/* The bytes of the painted stack that a call wrote, from the deepest one on. */
+static size_t depth_with(void (*call)(void), uint8_t paint)
+{
+    static ucontext_t here, there;
+    memset(stack, paint, sizeof stack);
+    if (getcontext(&there) != 0)
+        abort();
+    there.uc_stack.ss_sp = stack;
+    there.uc_stack.ss_size = sizeof stack;
+    there.uc_link = &here;
+    makecontext(&there, call, 0);
+    if (swapcontext(&here, &there) != 0)
+        abort();
+    size_t untouched = 0;
+    while (untouched < sizeof stack && stack[untouched] == paint)
+        untouched++;
+    return sizeof stack - untouched;
+}
+
+/* Two paints, so that a byte equal to one of them doesn't hide. */
+static size_t depth(void (*call)(void))
+{
+    size_t first = depth_with(call, 0xa5);
+    size_t second = depth_with(call, 0x5a);
+    return first > second ? first : second;
+}
+
+static void put(uint8_t *bytes, size_t *at, unsigned width, int64_t value)
+{
+    while (width-- > 0) {
+        if ((uint64_t)value >> width & 1)
+            bytes[*at / 8] |= (uint8_t)(0x80u >> *at % 8);
+        ++*at;
+    }
+}
+
+static void write_sheet(int law)
+{
+    size_t at = 0;
+    int tensions = law == 1 ? 7 : 1;
+    memset(sheet, 0, sizeof sheet);
+    put(sheet, &at, 2, law);
+    put(sheet, &at, 3, tensions);
+    put(sheet, &at, 3, law == 3);
+    put(sheet, &at, 20, 200000);
+    put(sheet, &at, 14, 1200);
+    put(sheet, &at, 16, 200);
+    put(sheet, &at, 24, 200000);
+    put(sheet, &at, 24, law == 3 ? 250000 : 0);
+    put(sheet, &at, 6, 0);
+    for (int i = 0; i < tensions; i++) {
+        put(sheet, &at, 28, i + 1 < tensions ? 100000000 : 0);
+        put(sheet, &at, 20, 14000 - 2000 * i);
+    }
+    if (law == 3) {
+        put(sheet, &at, 28, 0);
+        put(sheet, &at, 20, 2000);
+    }
+    sheet_len = at / 8;
+}
+
+/* Strain swings far past both limits, while the rod warms and cools. */
+static void write_pairs(void)
+{
+    size_t at = 0;
+    memset(pairs, 0, sizeof pairs);
+    for (int i = 0; i < TIE_ROD_PAIRS_MAX; i++) {
+        put(pairs, &at, 3, 0);
+        put(pairs, &at, 29, i == 0 ? 20000000 : i % 2 ? -40000000 : 40000000);
+        put(pairs, &at, 16, 200 + i % 300);
+    }
+}
+
+int main(void)
+{
+    static const struct {
+        const char *name;
+        void (*call)(void);
+    } calls[] = {{"unused rod", unused}, {"forecast", forecast}, {"single pair", pair}, {"run of 4,096 pairs", run}};
+    size_t most = 0, run_most = 0;
+    write_pairs();
+    for (int law = 0; law < 4; law++) {
+        write_sheet(law);
+        for (size_t i = 0; i < sizeof calls / sizeof calls[0]; i++) {
+            /* Once beforehand, so that the dynamic linker's own frames aren't counted. */
+            calls[i].call();
+            size_t bytes = depth(calls[i].call);
+            if (tie_rod_number(answer) != TIE_ROD_ACCEPTED) {
+                fprintf(stderr, "%s, law %d: refused with %u\n", calls[i].name, law, tie_rod_number(answer));
+                return 1;
+            }
+            if (bytes > most)
+                most = bytes;
+            if (calls[i].call == run && bytes > run_most)
+                run_most = bytes;
+        }
+    }
+    size_t empty = depth(nothing);
+    if (run_most <= empty) {
+        fprintf(stderr, "the paint shows no call\n");
+        return 1;
+    }
+    printf("peak stack: %zu bytes for a run of 4,096 pairs, %zu for any call (%zu of them without a call)\n", run_most,
+           most, empty);
+    if (most > MOST_BYTES) {
+        fprintf(stderr, "that is more than %d bytes\n", MOST_BYTES);
+        return 1;
+    }
+    return 0;
+}

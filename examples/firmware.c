@@ -1,0 +1,190 @@
+/*
+ * A logger's firmware in small: carries a rod over two heats through the C
+ * interface and prints what its card and its readers get.
+ */
+#include "tie_rod.h"
+
+#include <inttypes.h>
+#include <stdio.h>
+#include <string.h>
+
+#define PAIRS_OF_A_HEAT 6
+
+/* ---- fields of bits, most significant first ---- */
+
+/* Appends the lowest `width` bits of `value` at bit `*at`. */
+static void put(uint8_t *bytes, size_t *at, unsigned width, int64_t value)
+{
+    while (width-- > 0) {
+        if ((uint64_t)value >> width & 1)
+            bytes[*at / 8] |= (uint8_t)(0x80u >> *at % 8);
+        ++*at;
+    }
+}
+
+/* Takes `width` bits at bit `*at`; two's complement where `is_signed`. */
+static int64_t take(const uint8_t *bytes, size_t *at, unsigned width, int is_signed)
+{
+    uint64_t value = 0;
+    uint64_t top = (uint64_t)1 << (width - 1);
+    for (unsigned i = 0; i < width; i++, ++*at)
+        value = value << 1 | (bytes[*at / 8] >> (7 - *at % 8) & 1);
+    if (is_signed && (value & top))
+        return -(int64_t)(top - (value & (top - 1)));
+    return (int64_t)value;
+}
+
+/* ---- what goes in ---- */
+
+/* Law 0: E 200,000 MPa, 12e-6 per kelvin, yield 200 MPa, tangent 2,000 MPa, reference 20.0 degrees. */
+static size_t write_sheet(uint8_t *sheet)
+{
+    size_t at = 0;
+    memset(sheet, 0, 20);
+    put(sheet, &at, 2, 0);       /* law */
+    put(sheet, &at, 3, 1);       /* tension segments */
+    put(sheet, &at, 3, 0);       /* compression segments */
+    put(sheet, &at, 20, 200000); /* E */
+    put(sheet, &at, 14, 1200);   /* expansion */
+    put(sheet, &at, 16, 200);    /* reference temperature */
+    put(sheet, &at, 24, 200000); /* tension yield */
+    put(sheet, &at, 24, 0);      /* compression yield */
+    put(sheet, &at, 6, 0);       /* zero */
+    put(sheet, &at, 28, 0);      /* the one segment's length: it has no end */
+    put(sheet, &at, 20, 2000);   /* its tangent */
+    return at / 8;
+}
+
+static void write_pair(uint8_t *pair, int32_t strain_change, int16_t temperature)
+{
+    size_t at = 0;
+    memset(pair, 0, TIE_ROD_PAIR_BYTES);
+    put(pair, &at, 3, 0); /* kind */
+    put(pair, &at, 29, strain_change);
+    put(pair, &at, 16, temperature);
+}
+
+/* ---- what comes out ---- */
+
+/* Grains as MPa, all digits. */
+static void print_mpa(int64_t grains)
+{
+    uint64_t magnitude = grains < 0 ? 0 - (uint64_t)grains : (uint64_t)grains;
+    printf(" %s%" PRIu64 ".%09" PRIu64, grains < 0 ? "-" : "", magnitude / 1000000000u, magnitude % 1000000000u);
+}
+
+static void print_rows(const uint8_t *rows, size_t count)
+{
+    for (size_t i = 0; i < count; i++) {
+        size_t at = 8 * TIE_ROD_ROW_BYTES * i;
+        int yielded = (int)take(rows, &at, 1, 0);
+        at += 3; /* zero bits */
+        int64_t tangent = take(rows, &at, 20, 0);
+        int64_t stress = take(rows, &at, 48, 1);
+        int64_t plastic = take(rows, &at, 56, 1);
+        printf("  pair %zu: stress", i + 1);
+        print_mpa(stress);
+        printf(" MPa, E times plastic strain");
+        print_mpa(plastic);
+        printf(" MPa, tangent %" PRId64 " MPa%s\n", tangent, yielded ? ", yielded" : "");
+    }
+}
+
+static void print_card(const uint8_t *state)
+{
+    size_t at = 8;
+    int64_t strain = take(state, &at, 32, 1);
+    int64_t temperature = take(state, &at, 16, 1);
+    int64_t stress = take(state, &at, 48, 1);
+    at += 2 * 64;
+    int64_t n = take(state, &at, 32, 0);
+    int64_t k = take(state, &at, 32, 0);
+    printf("  card: strain %" PRId64 " nano, %" PRId64 " tenths of a degree, stress", strain, temperature);
+    print_mpa(stress);
+    printf(" MPa, %" PRId64 " pairs, %" PRId64 " of them yielded:\n", n, k);
+    printf("        stress and E times plastic strain are within %" PRId64 " grains of the exact ones\n", k);
+}
+
+static const char *who(unsigned number)
+{
+    if (number <= 3)
+        return "the sheet";
+    if (number <= 6)
+        return "the state";
+    if (number <= 9)
+        return "the logger";
+    if (number <= 11)
+        return "the steel";
+    return "the caller";
+}
+
+static void print_refusal(uint64_t answer)
+{
+    unsigned number = tie_rod_number(answer);
+    if (number != TIE_ROD_ACCEPTED)
+        printf("  refused with %u (%s) at pair %zu\n", number, who(number), tie_rod_place(answer));
+}
+
+/* Carries the rod on the card over a heat, and keeps the new state on the card. */
+static void heat(const char *name, const uint8_t *sheet, size_t sheet_len, uint8_t *card,
+                 const int32_t (*pairs)[2], size_t count)
+{
+    uint8_t list[PAIRS_OF_A_HEAT * TIE_ROD_PAIR_BYTES];
+    uint8_t rows[PAIRS_OF_A_HEAT * TIE_ROD_ROW_BYTES];
+    uint8_t next[TIE_ROD_STATE_BYTES];
+    size_t length = count * TIE_ROD_PAIR_BYTES;
+    for (size_t i = 0; i < count; i++)
+        write_pair(list + i * TIE_ROD_PAIR_BYTES, pairs[i][0], (int16_t)pairs[i][1]);
+
+    uint64_t answer = tie_rod_run(sheet, sheet_len, card, TIE_ROD_STATE_BYTES, list, length,
+                                  rows, sizeof rows, next, sizeof next);
+    printf("%s\n", name);
+    print_rows(rows, tie_rod_rows(answer, length));
+    print_refusal(answer);
+    /* After 1 to 6 there is no state to keep. */
+    if (tie_rod_number(answer) == TIE_ROD_ACCEPTED || tie_rod_number(answer) >= TIE_ROD_LIST_LENGTH)
+        memcpy(card, next, sizeof next);
+    print_card(card);
+}
+
+int main(void)
+{
+    /* Strain change in nano, new temperature in tenths of a degree. */
+    static const int32_t first_heat[][2] = {
+        {1500000, 200}, {-3000000, 200}, {0, 300}, {1200000, 300}, {400000, 900}, {-100000, 200},
+    };
+    static const int32_t second_heat[][2] = {
+        {900000, 200}, {600000, 200}, {150000000, 200}, {0, 200},
+    };
+    uint8_t sheet[TIE_ROD_SHEET_BYTES_MAX];
+    uint8_t card[TIE_ROD_STATE_BYTES];
+    size_t sheet_len = write_sheet(sheet);
+
+    uint64_t answer = tie_rod_unused(sheet, sheet_len, card);
+    printf("an unused rod\n");
+    print_refusal(answer);
+    if (tie_rod_number(answer) != TIE_ROD_ACCEPTED)
+        return 1;
+    print_card(card);
+
+    heat("first heat", sheet, sheet_len, card, first_heat, sizeof first_heat / sizeof first_heat[0]);
+    heat("second heat, with a gauge that slips at its third pair", sheet, sheet_len, card, second_heat,
+         sizeof second_heat / sizeof second_heat[0]);
+
+    uint8_t pair[TIE_ROD_PAIR_BYTES];
+    uint8_t row[TIE_ROD_ROW_BYTES];
+    uint8_t next[TIE_ROD_STATE_BYTES];
+    write_pair(pair, 200000, 200);
+    answer = tie_rod_pair(sheet, sheet_len, card, sizeof card, pair, sizeof pair, row, sizeof row, next, sizeof next);
+    printf("a single pair\n");
+    print_rows(row, tie_rod_rows(answer, sizeof pair));
+    print_refusal(answer);
+    memcpy(card, next, sizeof card);
+    print_card(card);
+
+    answer = tie_rod_forecast(sheet, sheet_len, card, sizeof card);
+    printf("a forecast\n");
+    print_refusal(answer);
+    printf("  tangent %" PRIu32 " MPa\n", tie_rod_tangent(answer));
+    return 0;
+}
