@@ -72,9 +72,9 @@ impl<'a> Bar<'a> {
     }
 }
 
-/// Where `pull` is above T(A), A grows by the difference, and the answer is T at the new A.
-fn grow(side: &Side, abscissa: &mut Fraction, pull: &Fraction) -> Option<Fraction> {
-    let past = pull - &side.limit(abscissa);
+/// Where the trial is above T(A), A grows by the difference, and the answer is T at the new A.
+fn grow(side: &Side, abscissa: &mut Fraction, trial: &Fraction) -> Option<Fraction> {
+    let past = trial - &side.limit(abscissa);
     if !past.is_positive() {
         return None;
     }

@@ -316,8 +316,8 @@ mod tests {
         let limbs = (0..count).map(|_| match random.below(4) {
             0 => 0,
             1 => u64::MAX,
-            2 => random.next() >> random.below(64),
-            _ => random.next(),
+            2 => random.draw() >> random.below(64),
+            _ => random.draw(),
         });
         Big::new(negative, limbs.collect())
     }
@@ -327,7 +327,7 @@ mod tests {
         let mut source = Random::new(1);
         for _ in 0..200_000 {
             let (shift, other) = (source.below(128), source.below(128));
-            let wide = |source: &mut Random| (source.next() as u128) << 64 | source.next() as u128;
+            let wide = |source: &mut Random| (source.draw() as u128) << 64 | source.draw() as u128;
             let (x, y) = (wide(&mut source) as i128 >> shift, wide(&mut source) as i128 >> other);
             let (a, b) = (Big::from(x), Big::from(y));
             assert_eq!(a.cmp(&b), x.cmp(&y));

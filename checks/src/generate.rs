@@ -252,7 +252,7 @@ pub fn bad_pair(random: &mut Random, rod: &Rod) -> [i64; 3] {
             let over = random.spread(1, STRAIN);
             [0, if rod.strain > 0 { STRAIN + over } else { -STRAIN - over } - rod.strain, rod.temperature]
         }
-        _ => [random.next() as i64, random.next() as i64, random.next() as i64],
+        _ => [random.draw() as i64, random.draw() as i64, random.draw() as i64],
     }
 }
 
@@ -379,7 +379,7 @@ pub fn damage(random: &mut Random, call: &mut Call) {
             let bytes = [&mut call.sheet, &mut call.state, &mut call.pairs][target as usize].as_mut_slice();
             if !bytes.is_empty() {
                 let at = random.below(bytes.len() as u64) as usize;
-                bytes[at] ^= if random.chance(70) { 1 << random.below(8) } else { random.next() as u8 };
+                bytes[at] ^= if random.chance(70) { 1 << random.below(8) } else { random.draw() as u8 };
             }
         }
         _ => {
@@ -391,7 +391,7 @@ pub fn damage(random: &mut Random, call: &mut Call) {
                 1 => bytes.len() + random.pick(&[1, 6, 3]),
                 _ => bytes.len().saturating_sub(random.pick(&[1, 6, 3])),
             };
-            bytes.resize(length, random.next() as u8);
+            bytes.resize(length, random.draw() as u8);
         }
     }
 }
@@ -500,7 +500,7 @@ fn set_field<const N: usize>(
     at: usize,
 ) {
     let field = random.below(N as u64) as usize;
-    let value = if random.chance(75) { random.pick(ends[field]) } else { random.next() as i64 };
+    let value = if random.chance(75) { random.pick(ends[field]) } else { random.draw() as i64 };
     with_field(layout, bytes, at, field, value);
 }
 

@@ -17,8 +17,10 @@ pub mod steer;
 
 use call::{Call, Outcome};
 
+pub type Version = fn(&Call) -> Outcome;
+
 /// What is held against the rules: the quick version, and the library where it is linked.
-pub const VERSIONS: &[(&str, fn(&Call) -> Outcome)] = &[
+pub const VERSIONS: &[(&str, Version)] = &[
     ("plain", call::plain),
     #[cfg(feature = "library")]
     ("library", library::call),

@@ -100,7 +100,7 @@ impl Guarded {
     }
 
     fn pointer(&mut self) -> *mut u8 {
-        if self.len == 0 && self.start % 2 == 0 {
+        if self.len == 0 && self.start.is_multiple_of(2) {
             return std::ptr::null_mut();
         }
         self.bytes_mut().as_mut_ptr()

@@ -238,7 +238,7 @@ fn empty_buffers() {
 #[test]
 fn many_quick_calls() {
     let mut random = Random::new(107);
-    for i in 0..1_000_000 {
+    for i in 0..600_000 {
         let mut call = generate::valid(&mut random);
         if i % 4 == 0 {
             generate::damage(&mut random, &mut call);

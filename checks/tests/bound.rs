@@ -3,14 +3,12 @@
 //! without rounding, k being counted over the rows.
 
 use checks::bar::Bar;
-use checks::call::{hex, Call, Entry, Outcome};
+use checks::call::{hex, Call, Entry};
 use checks::fraction::Fraction;
 use checks::generate::{self, flowing_pair, pair};
 use checks::random::Random;
 use checks::rules::{self, Law, Row, Sheet, State};
-use checks::VERSIONS;
-
-type Version = fn(&Call) -> Outcome;
+use checks::{Version, VERSIONS};
 
 /// A list of calls, walked to its end.
 struct Walk<'a> {
@@ -168,8 +166,8 @@ fn history(
 ) -> Seen {
     let sheet = rules::read_sheet(sheet_bytes).unwrap();
     let mut walk = Walk::new(version, sheet_bytes, &sheet);
-    let mut barren = 0;
-    while walk.history.len() < 6 * length && barren < 20 {
+    let mut idle = 0;
+    while walk.history.len() < 6 * length && idle < 20 {
         let before = walk.history.len();
         let left = (length - before / 6) as i64;
         let count = random.range(0, longest.min(left)) as usize;
@@ -185,7 +183,7 @@ fn history(
             4..=6 if count > 0 => walk.call(Entry::Pair, &pairs[..6], 16, 37),
             _ => walk.call(Entry::Run, &pairs, 16 * count + random.pick(&[0, 0, 5]), 37),
         }
-        barren = if walk.history.len() == before { barren + 1 } else { 0 };
+        idle = if walk.history.len() == before { idle + 1 } else { 0 };
     }
     walk.seen
 }
@@ -223,18 +221,18 @@ fn histories(seed: u64, rounds: usize, length: usize, longest: i64) -> Seen {
 
 #[test]
 fn short_histories() {
-    let seen = histories(300, 20_000, 24, 8);
+    let seen = histories(300, 12_000, 24, 8);
     assert!(seen.far > 100 && seen.very_far > 100, "the bound is never near: {seen:?}");
 }
 
 #[test]
 fn histories_of_300_pairs() {
-    histories(301, 400, 300, 60);
+    histories(301, 240, 300, 60);
 }
 
 #[test]
 fn histories_of_2000_pairs() {
-    histories(302, 48, 2_000, 300);
+    histories(302, 32, 2_000, 300);
 }
 
 /// The whole history in one run, each stop inside it.

@@ -111,9 +111,9 @@ fn flowed(slip: Slip, sheet: &Sheet, old: &Numbers, trial: &Fraction, change: i6
             return elastic;
         }
         let tangent = sheet.tension.segments[0].tangent;
-        let way = &(&offset.abs() - radius) * &Fraction::ratio(tangent, sheet.modulus);
-        let way = if slip == Slip::CentreUp { way.ceiling() } else { way.floor() };
-        let first = &old.first + &(&offset.sign() * &way);
+        let shift = &(&offset.abs() - radius) * &Fraction::ratio(tangent, sheet.modulus);
+        let shift = if slip == Slip::CentreUp { shift.ceiling() } else { shift.floor() };
+        let first = &old.first + &(&offset.sign() * &shift);
         let stress = &first + &(&offset.sign() * radius);
         let flow = if offset.is_negative() { Flow::Compression } else { Flow::Tension };
         return (Numbers { stress, first, second: old.second.clone() }, flow, tangent);
