@@ -63,43 +63,32 @@ fn settle(rod: Rod, sheet: Sheet, trial: Grain, response: Response) -> Settled
                 tangent: modulus,
             }
         }
-        Response::Tension(flowed) => in_first(flowed, second),
+        Response::Tension(flowed) => {
+            let moved = flowed.variable;
+            yielded(flowed, moved, second)
+        }
         Response::Compression(flowed) => {
+            let moved = flowed.variable;
             let law = sheet.law;
             if variables::has_second(law) {
-                return in_second(first, flowed);
+                return yielded(flowed, first, moved);
             }
-            in_first(flowed, second)
+            yielded(flowed, moved, second)
         }
     }
 }
 
-fn in_first(flowed: Flowed, second: Grain) -> Settled
-    ensures { λ r. ⌜ r ≡ record { yielded = true; stress = flowed .stress; first = flowed .variable; second = second; tangent = flowed .tangent } ⌝ }
+// What a flow left, with the variables after it.
+fn yielded(flowed: Flowed, first: Grain, second: Grain) -> Settled
+    ensures { λ r. ⌜ r ≡ record { yielded = true; stress = flowed .stress; first = first; second = second; tangent = flowed .tangent } ⌝ }
 {
     let stress = flowed.stress;
-    let variable = flowed.variable;
-    let tangent = flowed.tangent;
-    Settled {
-        yielded: true,
-        stress: stress,
-        first: variable,
-        second: second,
-        tangent: tangent,
-    }
-}
-
-fn in_second(first: Grain, flowed: Flowed) -> Settled
-    ensures { λ r. ⌜ r ≡ record { yielded = true; stress = flowed .stress; first = first; second = flowed .variable; tangent = flowed .tangent } ⌝ }
-{
-    let stress = flowed.stress;
-    let variable = flowed.variable;
     let tangent = flowed.tangent;
     Settled {
         yielded: true,
         stress: stress,
         first: first,
-        second: variable,
+        second: second,
         tangent: tangent,
     }
 }
