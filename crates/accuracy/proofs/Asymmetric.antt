@@ -11,13 +11,14 @@ use Rattle.fractions.proofs.Common.{is-same, is-whole, is-whole-one, is-add, is
 use Rattle.fractions.proofs.Comparison.{≤F-of-<F, ≤F-of-≈F, ≤F-trans, <F-≤F-trans, ≤F-or-<F, ≈F-refl, ≈F-sym, leF-true, leF-false}
 use Rattle.fractions.proofs.Cases.{cond-cases}
 use Rattle.fractions.proofs.Arithmetic.{is-within, whole-neg, within-sym, within-same, within-weaken, within-add, within-neg}
+use Rattle.bits.specs.Field.{flag}
 use Rattle.flow.specs.Side.{Side, Hardens, Flattens}
 use Rattle.flow.specs.Solution.{AsymmetricMoved, flowed, asymmetric}
 use Rattle.flow.specs.Rounded.{LimitRounded}
 use Rattle.flow.specs.Stored.{SideStored, sideStored, asymmetricStored}
 use Rattle.flow.proofs.OneSide.{limit-positive}
 use Rattle.flow.proofs.Asymmetric.{negated-twice}
-use Rattle.accuracy.specs.Close.{flow-count, LimitClose, AsymmetricClose}
+use Rattle.accuracy.proofs.Close.{LimitClose, AsymmetricClose}
 use Rattle.accuracy.proofs.Move.{Move}
 use Rattle.accuracy.proofs.Magnitudes.{same-signs, limits-apart, stays-past, no-more-than-trial, trial-small, exact-trial-small, magnitudes-small}
 use Rattle.accuracy.proofs.Moving.{exact-flows, stored-move}
@@ -117,9 +118,9 @@ limit-kept {side} curve g {A} e c =
 -- Stress and both limits after a pair, the stored trial of magnitude m not negative.
 abbrev UpClose : (tension compression : Side) (k : ℕ) (stored : SideStored) (B : ℕ) (stress A′ B′ : Frac) → Type 0
 UpClose tension compression k stored B stress A′ B′ =
-    Within (k + flow-count (stored .yielded)) (whole (pos (stored .magnitude))) stress
-    × LimitClose tension (k + flow-count (stored .yielded)) (stored .abscissa) A′
-    × LimitClose compression (k + flow-count (stored .yielded)) B B′
+    Within (k + flag (stored .yielded)) (whole (pos (stored .magnitude))) stress
+    × LimitClose tension (k + flag (stored .yielded)) (stored .abscissa) A′
+    × LimitClose compression (k + flag (stored .yielded)) B B′
 
 module _ {tension compression : Side} (curve : Hardens tension) (curve′ : Hardens compression) (flat : Flattens tension) {limit : ℕ → ℕ}
     (floor : (a : ℕ) → LimitRounded tension a (limit a)) (m : ℕ) {A B k : ℕ} {trial exact-A exact-B stress A′ B′ : Frac}
@@ -130,7 +131,7 @@ module _ {tension compression : Side} (curve : Hardens tension) (curve′ : Hard
       let (stresses, limits) = same-signs curve flat (c .past) (c .exact-past) move (e .move) near (c .close) in (
         stresses,
         record { past = stays-past curve (c .past) move; exact-past = stays-past curve (c .exact-past) (e .move); close = limits },
-        limit-kept curve′ (flow-count (sideStored limit m A .yielded)) (e .other) c′,
+        limit-kept curve′ (flag (sideStored limit m A .yielded)) (e .other) c′,
       )
 
   up-and-down : ExactDown tension compression trial exact-A exact-B stress A′ B′ → UpClose tension compression k (sideStored limit m A) B stress A′ B′
@@ -153,7 +154,7 @@ module _ {tension compression : Side} (curve : Hardens tension) (curve′ : Hard
       )
     where
       g : ℕ
-      g = flow-count (sideStored limit m A .yielded)
+      g = flag (sideStored limit m A .yielded)
 
       mag : ℕ
       mag = sideStored limit m A .magnitude
@@ -213,7 +214,7 @@ pub asymmetric-stays-close : {tension compression : Side} → Hardens tension �
     → AsymmetricClose tension compression k stress A B exact-stress exact-A exact-B → (w : ℤ)
     → let stored = asymmetricStored limitT limitC (stress +ℤ w) A B in
     let exact = asymmetric tension compression (exact-stress +F whole w) exact-A exact-B in
-    AsymmetricClose tension compression (k + flow-count (stored .yielded)) (stored .stress) (stored .tension) (stored .compression)
+    AsymmetricClose tension compression (k + flag (stored .yielded)) (stored .stress) (stored .tension) (stored .compression)
     (exact .stress) (exact .tension) (exact .compression)
 unfolding asymmetricStored
 asymmetric-stays-close {tension} {compression} curve curve′ flat flat′ {limitT} {limitC} floorT floorC {k} {stress} {A} {B} {exact-stress} {exact-A} {exact-B} c w =
@@ -230,7 +231,7 @@ asymmetric-stays-close {tension} {compression} curve curve′ flat flat′ {limi
 
     go : (s : ℤ) → Within k (whole s) trial
         → let stored = asymmetricStored limitT limitC s A B in
-        AsymmetricClose tension compression (k + flow-count (stored .yielded)) (stored .stress) (stored .tension) (stored .compression)
+        AsymmetricClose tension compression (k + flag (stored .yielded)) (stored .stress) (stored .tension) (stored .compression)
         (m .stress) (m .tension) (m .compression)
     go (pos n) near =
         let (stresses, limits, limits′) = up-close curve curve′ flat flat′ floorT floorC (c .tension-close) (c .compression-close) e n near in

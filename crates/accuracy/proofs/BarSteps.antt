@@ -3,14 +3,14 @@ use mathlib.Core.Path.{_≡_, refl}
 use mathlib.Core.List.{List, [], _∷_, _++_}
 use native.Mathlib.Omega.{arith}
 use lib.IntN.{ℤ, pos, _+ℤ_}
-use Rattle.fractions.specs.Fraction.{Frac, _≤F_, _<F_, _≈F_, whole, _-F_, absF}
+use Rattle.fractions.specs.Fraction.{Frac, _≤F_, _<F_, _≈F_, whole}
 use Rattle.fractions.proofs.Common.{is-whole-one, is-lt}
 use Rattle.fractions.proofs.Comparison.{≤F-refl, ≈F-refl, ≈F-trans, ≈F-sym}
 use Rattle.law.specs.declared.Law.{Law}
 use Rattle.law.specs.declared.Law.the-variants.{IsotropicLine, IsotropicCurve, Kinematic, Asymmetric}
 use Rattle.curve.specs.Sides.{curveOf}
 use Rattle.sheet.specs.declared.Sheet.{Sheet}
-use Rattle.sheet.specs.Sound.{SheetSound, tangentOf}
+use Rattle.sheet.specs.Sound.{SheetSound}
 use Rattle.pair.specs.declared.Pair.{Pair}
 use Rattle.flow.specs.Side.{Hardens}
 use Rattle.flow.proofs.Curves.{curve-hardens}
@@ -19,8 +19,8 @@ use Rattle.flow.proofs.Kinematic.{kinematic-solves, kinematic-unique}
 use Rattle.flow.proofs.Asymmetric.{asymmetric-solves, asymmetric-unique}
 use Rattle.response.proofs.SoundSides.{sound-passes}
 use Rattle.rod.specs.Unused.{unusedOf}
-use Rattle.accuracy.specs.Bar.{Bar, asBar, unusedBar, exactTrial, fed, radius, tensionSide, compressionSide, isotropicFed, kinematicFed, asymmetricFed, fedUnder, barStep, barFrom, barAfter}
-use Rattle.accuracy.specs.Only.{SameBar, MeetsUnder, Solves, OnlySolution}
+use Rattle.accuracy.specs.Bar.{Bar, unusedBar, exactTrial, radius, tensionSide, compressionSide, isotropicFed, kinematicFed, asymmetricFed, fedUnder, barStep, barFrom, barAfter}
+use Rattle.accuracy.specs.Only.{MeetsUnder, OnlySolution}
 
 module _ (h : Sheet) (sound : SheetSound h) where
   -- What is asked of a bar: its abscissas are at or above their yields.
@@ -37,18 +37,22 @@ module _ (h : Sheet) (sound : SheetSound h) where
   compression-hardens is = curve-hardens (sound .modulus-least) (sound-passes (h .modulus .0) (h .compression) (sound .compression is))
 
   radius-positive : whole (pos 0) <F radius h
-  radius-positive = is-lt (is-whole-one (pos 0)) (is-whole-one (pos (h .tension .«yield_stress» .0))) .1 (omega (arith, sound .tension .yield-least))
+  radius-positive =
+      is-lt (is-whole-one (pos 0)) (is-whole-one (pos (h .tension .«yield_stress» .0))) .1 (omega (arith, sound .tension .yield-least))
 
   -- The step meets the conditions,
-  isotropic-meets : (b : Bar) (p : Pair) → tensionSide h sound .yield ≤F b .first → MeetsUnder h sound IsotropicLine (exactTrial h b p) b (isotropicFed h sound b p)
+  isotropic-meets : (b : Bar) (p : Pair) → tensionSide h sound .yield ≤F b .first
+      → MeetsUnder h sound IsotropicLine (exactTrial h b p) b (isotropicFed h sound b p)
   unfolding isotropicFed
   isotropic-meets b p past = (isotropic-solves tension-hardens (exactTrial h b p) (b .first) past, ≈F-refl (b .second))
 
-  step-meets : (law : Law) → h .law ≡ law → (b : Bar) (p : Pair) → PastUnder law b → MeetsUnder h sound law (exactTrial h b p) b (fedUnder h sound law b p)
+  step-meets : (law : Law) → h .law ≡ law → (b : Bar) (p : Pair) → PastUnder law b
+      → MeetsUnder h sound law (exactTrial h b p) b (fedUnder h sound law b p)
   unfolding kinematicFed asymmetricFed
   step-meets IsotropicLine is b p past = isotropic-meets b p past
   step-meets IsotropicCurve is b p past = isotropic-meets b p past
-  step-meets Kinematic is b p past = ((_, kinematic-solves radius-positive (sound .modulus-least) (exactTrial h b p) (b .first)), ≈F-refl (b .second))
+  step-meets Kinematic is b p past =
+      ((_, kinematic-solves radius-positive (sound .modulus-least) (exactTrial h b p) (b .first)), ≈F-refl (b .second))
   step-meets Asymmetric is b p past =
       asymmetric-solves tension-hardens (compression-hardens is) (exactTrial h b p) (b .first) (b .second) (past .0) (past .1)
 
@@ -56,10 +60,13 @@ module _ (h : Sheet) (sound : SheetSound h) where
   abbrev SameUnder : Bar → Bar → Type 0
   SameUnder c d = (c .stress ≈F d .stress) × (c .first ≈F d .first) × (c .second ≈F d .second)
 
-  isotropic-same : (trial : Frac) (b c d : Bar) → MeetsUnder h sound IsotropicLine trial b c → MeetsUnder h sound IsotropicLine trial b d → SameUnder c d
-  isotropic-same trial b c d (m, e) (m′, e′) = let same = isotropic-unique tension-hardens m m′ in (same .0, same .1, ≈F-trans e (≈F-sym e′))
+  isotropic-same : (trial : Frac) (b c d : Bar) → MeetsUnder h sound IsotropicLine trial b c → MeetsUnder h sound IsotropicLine trial b d
+      → SameUnder c d
+  isotropic-same trial b c d (m, e) (m′, e′) =
+      let same = isotropic-unique tension-hardens m m′ in (same .0, same .1, ≈F-trans e (≈F-sym e′))
 
-  meets-same : (law : Law) → h .law ≡ law → (trial : Frac) (b c d : Bar) → MeetsUnder h sound law trial b c → MeetsUnder h sound law trial b d → SameUnder c d
+  meets-same : (law : Law) → h .law ≡ law → (trial : Frac) (b c d : Bar) → MeetsUnder h sound law trial b c → MeetsUnder h sound law trial b d
+      → SameUnder c d
   meets-same IsotropicLine is trial b c d m m′ = isotropic-same trial b c d m m′
   meets-same IsotropicCurve is trial b c d m m′ = isotropic-same trial b c d m m′
   meets-same Kinematic is trial b c d ((g, m), e) ((g′, m′), e′) =
@@ -73,7 +80,8 @@ module _ (h : Sheet) (sound : SheetSound h) where
   meets-past Kinematic trial b c m = tt
   meets-past Asymmetric trial b c m = (m .tension-holds .past, m .compression-holds .past)
 
-  step-strain : (law : Law) (b : Bar) (p : Pair) → (fedUnder h sound law b p .strain ≡ b .strain +ℤ p .change .0) × (fedUnder h sound law b p .temperature ≡ p .temperature .0)
+  pub step-strain : (law : Law) (b : Bar) (p : Pair)
+      → let c = fedUnder h sound law b p in (c .strain ≡ b .strain +ℤ p .change .0) × (c .temperature ≡ p .temperature .0)
   unfolding isotropicFed kinematicFed asymmetricFed
   step-strain IsotropicLine b p = (refl, refl)
   step-strain IsotropicCurve b p = (refl, refl)
@@ -89,8 +97,8 @@ module _ (h : Sheet) (sound : SheetSound h) where
         only = λ d s.
             let same = meets-same (h .law) refl (exactTrial h b p) b d (barStep h sound b p) (s .law) meets in
             record {
-              strain = rw (strain) (s .strain);
-              temperature = rw (temperature) (s .temperature);
+              strain = rw strain (s .strain);
+              temperature = rw temperature (s .temperature);
               stress = same .0;
               first = same .1;
               second = same .2;
@@ -122,5 +130,7 @@ module _ (h : Sheet) (sound : SheetSound h) where
   fed-last b (q ∷ pairs) p = fed-last (barStep h sound b q) pairs p
 
   -- After any history, the next step is the only solution of the conditions from the bar's own numbers.
-  pub each-step-only-solution : (pairs : List Pair) (p : Pair) → OnlySolution h sound (barAfter h sound pairs) p (barAfter h sound (pairs ++ (p ∷ [])))
-  each-step-only-solution pairs p = rw (fed-last (unusedBar h) pairs p) (step-only-solution (barAfter h sound pairs) p (history-past pairs))
+  pub each-step-only-solution : (pairs : List Pair) (p : Pair)
+      → OnlySolution h sound (barAfter h sound pairs) p (barAfter h sound (pairs ++ (p ∷ [])))
+  each-step-only-solution pairs p =
+      rw (fed-last (unusedBar h) pairs p) (step-only-solution (barAfter h sound pairs) p (history-past pairs))

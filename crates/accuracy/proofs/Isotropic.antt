@@ -10,12 +10,13 @@ use Rattle.fractions.proofs.Comparison.{≤F-of-<F, ≈F-refl, ≈F-sym, leF-tr
 use Rattle.fractions.proofs.Cases.{cond-cases}
 use Rattle.fractions.proofs.Arithmetic.{whole-abs, whole-signed, within-sym, within-same, within-add}
 use Rattle.fractions.proofs.Signs.{signed-abs, abs-not-negative}
+use Rattle.bits.specs.Field.{flag}
 use Rattle.flow.specs.Side.{Side, Hardens, Flattens}
 use Rattle.flow.specs.Solution.{Moved, flowed, isotropic}
 use Rattle.flow.specs.Rounded.{LimitRounded}
 use Rattle.flow.specs.Stored.{SideStored, sideStored, isotropicStored}
 use Rattle.flow.proofs.OneSide.{limit-positive}
-use Rattle.accuracy.specs.Close.{flow-count, IsotropicClose}
+use Rattle.accuracy.proofs.Close.{IsotropicClose}
 use Rattle.accuracy.proofs.Move.{Move}
 use Rattle.accuracy.proofs.Magnitudes.{same-signs, limits-apart, stays-past, no-more-than-trial, trial-small, exact-trial-small, magnitudes-small}
 use Rattle.accuracy.proofs.Moving.{exact-flows, stored-move}
@@ -54,7 +55,7 @@ module _ {side : Side} (curve : Hardens side) (flat : Flattens side) {limit : �
       → IsotropicClose side k stress A exact-stress exact-A → (w : ℤ)
       → let stored = isotropicStored limit (stress +ℤ w) A in
       let exact = isotropic side (exact-stress +F whole w) exact-A in
-      IsotropicClose side (k + flow-count (stored .yielded)) (stored .stress) (stored .abscissa) (exact .stress) (exact .variable)
+      IsotropicClose side (k + flag (stored .yielded)) (stored .stress) (stored .abscissa) (exact .stress) (exact .variable)
   unfolding isotropicStored
   isotropic-stays-close {k} {stress} {A} {exact-stress} {exact-A} c w = ⊎-elim alike unlike (signs (whole (stress +ℤ w)) (exact-stress +F whole w))
     where
@@ -68,7 +69,7 @@ module _ {side : Side} (curve : Hardens side) (flat : Flattens side) {limit : �
       r = sideStored limit (natAbs trial) A
 
       g : ℕ
-      g = flow-count (r .yielded)
+      g = flag (r .yielded)
 
       b : Moved
       b = isotropic side exact-trial exact-A

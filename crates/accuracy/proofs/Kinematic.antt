@@ -17,10 +17,11 @@ use Rattle.fractions.proofs.Cases.{cond-cases}
 use Rattle.fractions.proofs.Arithmetic.{add-same, sub-same, times-same, times-not-negative, add-mono, whole-add, whole-neg, within-sym, within-same, within-weaken, within-add, within-neg}
 use Rattle.fractions.proofs.Signs.{sign-cases}
 use Rattle.fractions.proofs.Rounded.{is-floor, floor-same, floor-times}
+use Rattle.bits.specs.Field.{flag}
 use Rattle.flow.specs.Solution.{Moved, kinematic}
 use Rattle.flow.specs.Stored.{KinematicStored, kinematicStored}
 use Rattle.flow.proofs.Asymmetric.{negated-twice}
-use Rattle.accuracy.specs.Close.{flow-count, KinematicClose}
+use Rattle.accuracy.proofs.Close.{KinematicClose}
 use Rattle.accuracy.proofs.Centre.{Inside, Beyond, stays-behind, beyond-and-inside, beyond-apart, beyond-both}
 
 -- A number as it stands, or negated: the upper side of the centre, or the lower one.
@@ -198,10 +199,10 @@ module _ {E t : ℕ} {h : 0 < E} (y : ℕ) where
       floor = floor-same (pos M) (times-same t E h excess) (floor-times (n - y) t E h)
 
   stored-centre : (s X : ℤ) → let m = kinematicStored E t y s X in
-      CentreMove E t h (flow-count (m .yielded)) (whole (pos y)) (whole s) (whole X) (whole (m .stress)) (whole (m .centre))
+      CentreMove E t h (flag (m .yielded)) (whole (pos y)) (whole s) (whole X) (whole (m .stress)) (whole (m .centre))
   unfolding kinematicStored
   stored-centre s X =
-      cond-cases (λ (m : KinematicStored). CentreMove E t h (flow-count (m .yielded)) (whole (pos y)) (whole s) (whole X)
+      cond-cases (λ (m : KinematicStored). CentreMove E t h (flag (m .yielded)) (whole (pos y)) (whole s) (whole X)
       (whole (m .stress)) (whole (m .centre)))
       (leb (natAbs (s -ℤ X)) y) _ _
       (λ l. inside (stored-inside y s X (leb-true (natAbs (s -ℤ X)) y l)) (≈F-refl (whole s)) (≈F-refl (whole X)))
@@ -219,7 +220,7 @@ pub kinematic-stays-close : {E t : ℕ} (h : 0 < E) → t ≤ E → (yield : ℕ
     → KinematicClose k stress X exact-stress exact-X → (w : ℤ)
     → let stored = kinematicStored E t yield (stress +ℤ w) X in
     let exact = kinematic E t h (whole (pos yield)) (exact-stress +F whole w) exact-X in
-    KinematicClose (k + flow-count (stored .yielded)) (stored .stress) (stored .centre) (exact .stress) (exact .variable)
+    KinematicClose (k + flag (stored .yielded)) (stored .stress) (stored .centre) (exact .stress) (exact .variable)
 kinematic-stays-close h slope yield {stress = stress} {X} {exact-stress} {exact-X} c w =
     let zero = is-le (is-whole-one (pos 0)) (is-whole-one (pos yield)) .1 (omega arith) in
     let (stresses, centres) = apart slope zero (within-add stress w (c .stress-close)) (c .centre-close)

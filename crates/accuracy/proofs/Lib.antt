@@ -1,3 +1,4 @@
+pub mod Close
 pub mod Move
 pub mod Magnitudes
 pub mod Moving
@@ -8,3 +9,6 @@ pub mod Centre
 pub mod Kinematic
 pub mod Unused
 pub mod BarSteps
+pub mod Together
+pub mod Histories
+pub mod Bound

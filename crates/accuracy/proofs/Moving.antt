@@ -13,12 +13,12 @@ use Rattle.fractions.proofs.Common.{Is, is-whole, is-whole-one, is-add, is-sub,
 use Rattle.fractions.proofs.Comparison.{≤F-refl, ≤F-trans, ≈F-refl}
 use Rattle.fractions.proofs.Cases.{cond-cases}
 use Rattle.fractions.proofs.Rounded.{is-floor, floor-passed}
+use Rattle.bits.specs.Field.{flag}
 use Rattle.flow.specs.Side.{Side, Hardens}
 use Rattle.flow.specs.Solution.{flowed}
 use Rattle.flow.specs.Rounded.{LimitRounded}
 use Rattle.flow.specs.Stored.{SideStored, sideStored}
 use Rattle.flow.proofs.OneSide.{accumulated-mono}
-use Rattle.accuracy.specs.Close.{flow-count}
 use Rattle.accuracy.proofs.Move.{Flows, Move}
 
 -- The bar past its limit.
@@ -66,10 +66,10 @@ module _ {side : Side} (curve : Hardens side) {limit : ℕ → ℕ} (floor : (a 
       })
 
   pub stored-move : let stored = sideStored limit m A in
-      Move side (flow-count (stored .yielded)) (whole (pos m)) (whole (pos A)) (whole (pos (stored .magnitude))) (whole (pos (stored .abscissa)))
+      Move side (flag (stored .yielded)) (whole (pos m)) (whole (pos A)) (whole (pos (stored .magnitude))) (whole (pos (stored .abscissa)))
   unfolding sideStored
   stored-move =
-      cond-cases (λ (r : SideStored). Move side (flow-count (r .yielded)) (whole (pos m)) (whole (pos A)) (whole (pos (r .magnitude)))
+      cond-cases (λ (r : SideStored). Move side (flag (r .yielded)) (whole (pos m)) (whole (pos A)) (whole (pos (r .magnitude)))
       (whole (pos (r .abscissa))))
       (leb m (limit A)) _ _
       (λ t. inl (record {

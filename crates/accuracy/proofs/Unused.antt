@@ -5,7 +5,7 @@ use Rattle.fractions.specs.Fraction.{_≤F_, whole}
 use Rattle.fractions.proofs.Comparison.{≈F-refl}
 use Rattle.fractions.proofs.Arithmetic.{within-none}
 use Rattle.flow.specs.Side.{Side}
-use Rattle.accuracy.specs.Close.{LimitClose, IsotropicClose, KinematicClose, AsymmetricClose}
+use Rattle.accuracy.proofs.Close.{LimitClose, IsotropicClose, KinematicClose, AsymmetricClose}
 
 pub limit-starts : (side : Side) (A : ℕ) → side .yield ≤F whole (pos A) → LimitClose side 0 A (whole (pos A))
 limit-starts side A p = record { past = p; exact-past = p; close = within-none (≈F-refl (side .limit (whole (pos A)))) }

@@ -1,3 +1,4 @@
-pub mod Close
 pub mod Bar
 pub mod Only
+pub mod History
+pub mod Within

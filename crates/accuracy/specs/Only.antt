@@ -20,16 +20,16 @@ pub record SameBar (b c : Bar) : Type 0 where
   pub second : b .second ≈F c .second
 
 module _ (h : Sheet) (sound : SheetSound h) where
-  -- The bar c meets the law's conditions from the trial stress and the variables of b. Under law 2, E times p grows by some fraction. A second
-  -- variable that the law does not have stays as it is.
+  -- The bar c meets the law's conditions from the trial stress and the variables of b. Under law 2, E times p grows by some fraction. A
+  -- second variable that the law does not have stays as it is.
   abbrev pub MeetsUnder : Law → (trial : Frac) → (b c : Bar) → Type 0
   MeetsUnder IsotropicLine trial b c =
       conditions.Isotropic (tensionSide h sound) trial (b .first) (c .stress) (c .first) × (c .second ≈F b .second)
   MeetsUnder IsotropicCurve trial b c =
       conditions.Isotropic (tensionSide h sound) trial (b .first) (c .stress) (c .first) × (c .second ≈F b .second)
   MeetsUnder Kinematic trial b c =
-      ((growth : Frac) × conditions.Kinematic (h .modulus .0) (tangentOf (h .tension) 0) (sound .tension .tangents-below 0 (sound .tension .count-least))
-      (radius h) trial (b .first) (c .stress) (c .first) growth)
+      ((growth : Frac) × conditions.Kinematic (h .modulus .0) (tangentOf (h .tension) 0)
+      (sound .tension .tangents-below 0 (sound .tension .count-least)) (radius h) trial (b .first) (c .stress) (c .first) growth)
       × (c .second ≈F b .second)
   MeetsUnder Asymmetric trial b c =
       conditions.Asymmetric (tensionSide h sound) (compressionSide h sound) trial (b .first) (b .second) (c .stress) (c .first) (c .second)

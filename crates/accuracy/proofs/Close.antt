@@ -1,15 +1,8 @@
--- "At each stop these lie within k grains of the bar's: stress, .. T unrounded at each stored abscissa (against T at the bar's own), and X
--- for law 2" (document 01, The bar without rounding), law by law. Definitions only; nothing is assumed.
-use mathlib.Core.Bool.{Bool, true, false}
+-- The invariant of a history, law by law: what lies within k of the bar's, a field for each quantity, and the abscissas past their yields.
 use Prim.Native.Nat.{ℕ}
 use lib.IntN.{ℤ, pos}
 use Rattle.fractions.specs.Fraction.{Frac, _≤F_, whole, Within}
 use Rattle.flow.specs.Side.{Side}
-
--- "k by 1 if the pair yielded."
-abbrev pub flow-count : Bool → ℕ
-flow-count true = 1
-flow-count false = 0
 
 -- On one side: T at the stored abscissa and at the bar's own, both abscissas past the yield.
 pub record LimitClose (side : Side) (k : ℕ) (A : ℕ) (exact : Frac) : Type 0 where
