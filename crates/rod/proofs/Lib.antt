@@ -6,5 +6,6 @@ pub mod RoundTrip
 pub mod UnusedLaws
 pub mod VariableLaws
 pub mod StepLaws
-pub mod Kept
 pub mod PairSolved
+pub mod BelongsKept
+pub mod Kept

@@ -20,7 +20,7 @@ use Rattle.rod.specs.Against.{pastYield, isotropicBelongs, asymmetricBel
 use Rattle.rod.specs.Steps.{trialOf, outcomeAfter}
 use Rattle.rod.specs.Steady.{Accepted}
 
-past-yield-is : (side : Side) (z : ℤ) → pastYield side z ≡ true → PastYield (side .«yield_stress» .0) z
+pub past-yield-is : (side : Side) (z : ℤ) → pastYield side z ≡ true → PastYield (side .«yield_stress» .0) z
 past-yield-is side (pos n) e = record { not-negative = refl; past = leb-true (side .«yield_stress» .0) n e }
 past-yield-is side (negsuc n) e = absurd (false≢true e)
 
