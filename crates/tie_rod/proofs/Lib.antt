@@ -1,0 +1,3 @@
+pub mod RowFits
+pub mod PairAnswers
+pub mod WalkLaws
