@@ -152,9 +152,9 @@ module _ (h : Sheet) (sound : SheetSound h) where
   -- ---- The theorem
 
   -- At the end of a history,
-  at-end : (pairs : List Pair) (advances : List Advance) → History (answerOf h) (unusedOf h) pairs advances
+  pub history-end-within : (pairs : List Pair) (advances : List Advance) → History (answerOf h) (unusedOf h) pairs advances
       → AtStop h sound pairs (rowsOf advances) (lastRod (unusedOf h) advances)
-  at-end pairs advances e =
+  history-end-within pairs advances e =
       let t = history-together (unusedOf h) (unusedBar h) pairs advances starts-together e in
       let k = yieldedRows (rowsOf advances) in
       record {
@@ -168,7 +168,8 @@ module _ (h : Sheet) (sound : SheetSound h) where
   -- and after each pair of it: any list of pairs accepted one after another from the unused rod of a sheet that passes, whatever its law.
   pub history-within : (pairs : List Pair) (advances : List Advance) → History (answerOf h) (unusedOf h) pairs advances → (j : ℕ)
       → AtStop h sound (take j pairs) (rowsOf (take j advances)) (lastRod (unusedOf h) (take j advances))
-  history-within pairs advances e j = at-end (take j pairs) (take j advances) (history-prefix (answerOf h) (unusedOf h) pairs advances j e)
+  history-within pairs advances e j =
+      history-end-within (take j pairs) (take j advances) (history-prefix (answerOf h) (unusedOf h) pairs advances j e)
 
   -- Any list of pairs, carried until one is refused: the pairs before that one are such a history.
   pub carried-within : (pairs : List Pair) (j : ℕ)

@@ -57,7 +57,7 @@ abbrev pub fed : Bar → Pair → (stress first second : Frac) → Bar
 fed b p stress first second =
     record { strain = b .strain +ℤ p .change .0; temperature = p .temperature .0; stress = stress; first = first; second = second }
 
--- A law of one variable.
+-- A law that moves the first variable alone.
 abbrev pub fedFirst : Bar → Pair → Moved → Bar
 fedFirst b p m = fed b p (m .stress) (m .variable) (b .second)
 
@@ -73,7 +73,7 @@ module _ (h : Sheet) (sound : SheetSound h) where
   abbrev pub compressionSide : Side
   compressionSide = sideOf (h .modulus .0) (sound .modulus-least) (curveOf (h .compression))
 
-  -- "Laws 0, 1", "Law 2" and "Law 3": "the bar's own numbers say whether it flows".
+  -- "The bar's own numbers say whether it flows": laws 0 and 1, law 2 and law 3, each by crate flow's exact step (flow/specs/Solution).
   unfoldable pub isotropicFed : Bar → Pair → Bar
   isotropicFed b p = fedFirst b p (isotropic tensionSide (exactTrial h b p) (b .first))
 
