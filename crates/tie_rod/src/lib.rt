@@ -1,4 +1,6 @@
 // The entries on bytes: making an unused rod, a forecast, a single pair and a whole run.
+pub mod entry; // entry.rt: the four entries
+mod judge; // judge.rt: what is decided before the first pair
 mod walk; // walk.rt: the pairs, one after another
 
 use rod::Rod;
