@@ -1,1 +1,3 @@
 pub mod Walks
+pub mod Pieces
+pub mod Goes
