@@ -164,16 +164,22 @@ module _ (sheet : List ℕ) (passed : firstOf (sheetRefusals sheet) (sheetOf she
 
     -- ---- A run of the first accepted pairs
 
-    -- The first j of the accepted pairs are a history too, from the bytes that they take.
+    -- The first j of the accepted pairs are a history too,
+    pub first-pairs : (pairs : List ℕ) (advances : List Advance) (j : ℕ) → History (pairAnswer h) r (pieces pairLength (length advances) pairs) advances
+        → j ≤ length advances → History (pairAnswer h) r (pieces pairLength j pairs) (take j advances)
+    first-pairs pairs advances j e few =
+        subst (λ (l : List (List ℕ)). History (pairAnswer h) r l (take j advances)) (take-pieces pairLength j (length advances) pairs few)
+        (history-prefix (pairAnswer h) r (pieces pairLength (length advances) pairs) advances j e)
+
+    -- and one from the bytes that they take.
     first-history : (pairs : List ℕ) (advances : List Advance) (j : ℕ) → History (pairAnswer h) r (pieces pairLength (length advances) pairs) advances
         → j ≤ length advances → pairLength * j ≤ length pairs
         → History (pairAnswer h) r (pieces pairLength (length (take j advances)) (take (pairLength * j) pairs)) (take j advances)
     first-history pairs advances j e few room =
-        let items : take j (pieces pairLength (length advances) pairs) ≡ pieces pairLength (length (take j advances)) (take (pairLength * j) pairs) =
-        take-pieces pairLength j (length advances) pairs few ∙ sym (pieces-within pairLength j pairs room)
+        let items : pieces pairLength j pairs ≡ pieces pairLength (length (take j advances)) (take (pairLength * j) pairs) =
+        sym (pieces-within pairLength j pairs room)
         ∙ ap (λ (n : ℕ). pieces pairLength n (take (pairLength * j) pairs)) (sym (length-take-le j advances few)) in
-        subst (λ (l : List (List ℕ)). History (pairAnswer h) r l (take j advances)) items
-        (history-prefix (pairAnswer h) r (pieces pairLength (length advances) pairs) advances j e)
+        subst (λ (l : List (List ℕ)). History (pairAnswer h) r l (take j advances)) items (first-pairs pairs advances j e few)
 
     -- A list of j pairs, with room for j rows and a state, meets neither 7 nor 12.
     enough-room : (j : ℕ) (next : ℕ) → j ≤ mostPairs → eqb next stateLength ≡ true

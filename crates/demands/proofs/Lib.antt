@@ -1,3 +1,4 @@
 pub mod Walks
 pub mod Pieces
 pub mod Goes
+pub mod Demand3
