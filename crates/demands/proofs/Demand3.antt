@@ -81,7 +81,7 @@ module _ (sheet : List ℕ) (passed : firstOf (sheetRefusals sheet) (sheetOf she
     unfolding acceptedIn
     accepted-is = g .read-off
 
-    call-reached : (j : ℕ) → j ≤ acceptedIn sheet s c → Reached r (pairsIn sheet s c j) (rowsIn sheet s c j) (stateIn sheet s c j)
+    call-reached : (j : ℕ) → j ≤ acceptedIn sheet s c → Reached r (pairsIn c j) (rowsIn sheet s c j) (stateIn sheet s c j)
     unfolding pairsIn rowsIn
     call-reached j few =
         let fewer : j ≤ length (g .advances) = omega (arith, accepted-is) in
@@ -106,22 +106,22 @@ module _ (sheet : List ℕ) (passed : firstOf (sheetRefusals sheet) (sheetOf she
     unfolding lastRod
     at-call = record { none-standing = g .none-standing; starts = state-in sheet passed r p c g 0 (omega arith); ends = ends-there }
 
-    call-reached-whole : Reached r (pairsIn sheet s c (acceptedIn sheet s c)) (rowsIn sheet s c (acceptedIn sheet s c)) (stateAfter sheet s c)
+    call-reached-whole : Reached r (pairsIn c (acceptedIn sheet s c)) (rowsIn sheet s c (acceptedIn sheet s c)) (stateAfter sheet s c)
     call-reached-whole =
-        subst (λ (l : List ℕ). Reached r (pairsIn sheet s c (acceptedIn sheet s c)) (rowsIn sheet s c (acceptedIn sheet s c)) l) ends-there
+        subst (λ (l : List ℕ). Reached r (pairsIn c (acceptedIn sheet s c)) (rowsIn sheet s c (acceptedIn sheet s c)) l) ends-there
         (call-reached (acceptedIn sheet s c) (omega arith))
 
   -- ---- The list
 
   module _ (r : Rod) (p : StatePasses h r) (s : List ℕ) (is : s ≡ stateBytes r) (c : Call) where
-    first-reached : (j : ℕ) → j ≤ acceptedIn sheet s c → Reached r (pairsIn sheet s c j) (rowsIn sheet s c j) (stateIn sheet s c j)
+    first-reached : (j : ℕ) → j ≤ acceptedIn sheet s c → Reached r (pairsIn c j) (rowsIn sheet s c j) (stateIn sheet s c j)
     first-reached =
-        subst (λ (x : List ℕ). (j : ℕ) → j ≤ acceptedIn sheet x c → Reached r (pairsIn sheet x c j) (rowsIn sheet x c j) (stateIn sheet x c j)) (sym is)
+        subst (λ (x : List ℕ). (j : ℕ) → j ≤ acceptedIn sheet x c → Reached r (pairsIn c j) (rowsIn sheet x c j) (stateIn sheet x c j)) (sym is)
         (call-reached r p c)
 
-    whole-reached : Reached r (pairsIn sheet s c (acceptedIn sheet s c)) (rowsIn sheet s c (acceptedIn sheet s c)) (stateAfter sheet s c)
+    whole-reached : Reached r (pairsIn c (acceptedIn sheet s c)) (rowsIn sheet s c (acceptedIn sheet s c)) (stateAfter sheet s c)
     whole-reached =
-        subst (λ (x : List ℕ). Reached r (pairsIn sheet x c (acceptedIn sheet x c)) (rowsIn sheet x c (acceptedIn sheet x c)) (stateAfter sheet x c)) (sym is)
+        subst (λ (x : List ℕ). Reached r (pairsIn c (acceptedIn sheet x c)) (rowsIn sheet x c (acceptedIn sheet x c)) (stateAfter sheet x c)) (sym is)
         (call-reached-whole r p c)
 
   -- A stop is reached by the history of all accepted pairs before it.

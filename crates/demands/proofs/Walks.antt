@@ -145,12 +145,11 @@ module _ (h : Sheet) where
       let right = pair-number h r (take pairLength bytes) e in
       let bounds = both-hold (leb 8 n) (leb n 11) right in
       let least = leb-true 8 n (bounds .0) in
-      let back : i + 1 - 1 ≡ i + 0 = omega arith in
       record {
         advances = [];
         history = tt;
         few = omega arith;
-        read-off = rw (ne-eqb n 0 (λ z. omega arith), right) back;
+        read-off = rw (ne-eqb n 0 (λ z. omega arith), right) (omega arith);
         none-standing = past-six n least;
         rod = refl;
         rows = refl;

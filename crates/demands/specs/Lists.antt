@@ -34,6 +34,10 @@ pieces size (suc count) bytes = take size bytes ∷ pieces size count (drop size
 unfoldable pub acceptedBy : (number place pairs : ℕ) → ℕ
 acceptedBy number place pairs = pick (eqb number 0) pairs (pick (within 8 11 number) (place - 1) 0)
 
+-- The first j pairs of a call.
+unfoldable pub pairsIn : Call → (j : ℕ) → List Pair
+pairsIn c j = map pairOf (pieces pairLength j (c .pairs))
+
 -- All calls are on one sheet.
 module _ (sheet : List ℕ) where
   -- ---- One call, given a state
@@ -52,11 +56,7 @@ module _ (sheet : List ℕ) where
   acceptedIn state c =
       acceptedBy (callLeaves state c .reply .number) (callLeaves state c .reply .place) (length (c .pairs) / pairLength)
 
-  -- Its first j pairs,
-  unfoldable pub pairsIn : (state : List ℕ) → Call → (j : ℕ) → List Pair
-  pairsIn state c j = map pairOf (pieces pairLength j (c .pairs))
-
-  -- and the first j rows among the bytes that the call itself wrote.
+  -- The first j rows among the bytes that the call itself wrote.
   unfoldable pub rowsIn : (state : List ℕ) → Call → (j : ℕ) → List Row
   rowsIn state c j = map rowOf (pieces rowLength j (callLeaves state c .rows))
 
@@ -82,7 +82,7 @@ module _ (sheet : List ℕ) where
 
   -- "The history is the accepted pairs of all calls, in order",
   abbrev pub pairsAt : (state : List ℕ) → List Call → (i j : ℕ) → List Pair
-  pairsAt state calls i j = upTo pairsIn state calls i j
+  pairsAt state calls i j = upTo (λ given c j. pairsIn c j) state calls i j
 
   -- the rows written for them,
   abbrev pub rowsAt : (state : List ℕ) → List Call → (i j : ℕ) → List Row
