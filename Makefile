@@ -1,13 +1,17 @@
 # make test: every check that the project has; the last line is the prover's own verdict.
-.PHONY: test rules check fmt
+.PHONY: test checks bench check fmt
 
-test: rules
+test: checks
 	rt fmt --check
 	rt ci
 
-# Document 01 in Rust, over fractions, held against itself: its own laws, the board, the stored logs.
-rules:
-	CARGO_TARGET_DIR=target/cargo cargo test -q --offline --release --no-default-features --manifest-path checks/Cargo.toml
+# The archive held against document 01 in Rust, over fractions, and what the C programs say.
+checks:
+	sh checks/run.sh
+
+# Nanoseconds a pair, beside plain Rust; after `make checks`.
+bench:
+	cd checks && TIE_ROD_LIB=$(CURDIR)/target/staticlib/libtie_rod_c.a CARGO_TARGET_DIR=$(CURDIR)/target/cargo cargo run -q --offline --profile speed --bin bench
 
 # The quick loop: proves what has changed since the last time.
 check:
