@@ -9,8 +9,9 @@ test: checks
 checks:
 	sh checks/run.sh
 
-# Nanoseconds a pair, beside plain Rust; after `make checks`.
+# Nanoseconds a pair, beside plain Rust.
 bench:
+	rt staticlib tie_rod_c >/dev/null
 	cd checks && TIE_ROD_LIB=$(CURDIR)/target/staticlib/libtie_rod_c.a CARGO_TARGET_DIR=$(CURDIR)/target/cargo cargo run -q --offline --profile speed --bin bench
 
 # The quick loop: proves what has changed since the last time.
