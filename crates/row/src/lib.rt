@@ -5,7 +5,7 @@ ghost use mathlib.Core.Path.{_≡_};
 ghost use Prim.Native.Nat.{_+_, _≤_};
 ghost use lib.ListN.{length, take};
 ghost use Rattle.bits.specs.Layout.{filled, packed, put};
-ghost use Rattle.row.specs.Rows.{RowFits, rowBytes, rowLayout, rowLength, rowValues};
+ghost use Rattle.row.specs.Rows.{RowFits, rowBytes, rowLayout, rowLength, rowOf, rowValues};
 
 // Bytes of a row.
 pub const ROW_LENGTH: usize = 16;
@@ -19,6 +19,22 @@ pub struct Row {
 }
 
 impl Row {
+    // Reads the row at the start of some bytes.
+    pub fn read(s: &[u8]) -> Row
+        ensures { λ r. ⌜ r ≡ rowOf (now (s .entry)) ⌝ }
+    {
+        let mark = bits::read(s, 0, 1);
+        let tangent = bits::read(s, 4, 20);
+        let stress = bits::read_whole(s, 24, 48);
+        let plastic = bits::read_whole(s, 72, 56);
+        Row {
+            yielded: mark == 1,
+            tangent: Modulus(tangent),
+            stress: Grain(stress),
+            plastic: Grain(plastic),
+        }
+    }
+
     // The first three fields as one number of 24 bits: yielded, three zero bits, tangent.
     fn front(self) -> u64
         requires { ⌜ RowFits self ⌝ }
