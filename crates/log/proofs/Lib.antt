@@ -1,0 +1,6 @@
+pub mod AppendLaws
+pub mod NumeralLaws
+pub mod LineLaws
+pub mod PartLaws
+pub mod RunLaws
+pub mod RoomLaws

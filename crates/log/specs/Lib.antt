@@ -1,0 +1,3 @@
+pub mod Texts
+pub mod Lines
+pub mod Logs

@@ -1,0 +1,41 @@
+-- Text in bytes: "all numbers are whole and written in decimal" (document 01, Units). Definitions only; nothing is assumed.
+use Prim.Native.Nat.{ℕ, zero, suc, _+_, _/_, _%_}
+use Prim.Native.Char.{code}
+use Prim.Native.String as string
+use Prim.Native.String.{String}
+use mathlib.Core.Path.{_≡_}
+use mathlib.Core.List.{List, [], _∷_, _++_}
+use lib.ListN.{length}
+use lib.IntN.{ℤ, pos, negsuc}
+use lib.Dec.{ltb}
+use Rattle.refusals.specs.Table.{pick}
+use Rattle.bits.specs.Layout.{put}
+
+-- The bytes of a text, one for each of its letters.
+abbrev pub ascii : String → List ℕ
+ascii string.[] = []
+ascii (string._∷_ c rest) = code c ∷ ascii rest
+
+-- The digits 0 to 9.
+abbrev pub digit : ℕ → ℕ
+digit d = 48 + d
+
+-- The decimal digits of a number, of which there are at most so many: below ten it is one digit, else the digits of its tenth part and
+-- then its last one.
+unfoldable pub digitsWithin : (most n : ℕ) → List ℕ
+digitsWithin zero n = []
+digitsWithin (suc most) n = pick (ltb n 10) (digit n ∷ []) (digitsWithin most (n / 10) ++ (digit (n % 10) ∷ []))
+
+-- A number in decimal. No number has more digits than the next greater one counts.
+unfoldable pub numeral : ℕ → List ℕ
+numeral n = digitsWithin (suc n) n
+
+-- A whole number: a minus sign below zero, and its magnitude; `negsuc n` is -(n + 1).
+unfoldable pub whole : ℤ → List ℕ
+whole (pos n) = numeral n
+whole (negsuc n) = ascii "-" ++ numeral (suc n)
+
+-- What appending a text at a place of a buffer leaves there: the text, every other byte as it was, and the place behind the text.
+pub record Appended (text old : List ℕ) (at : ℕ) (new : List ℕ) (end : ℕ) : Type 0 where
+  pub written : new ≡ put old at text
+  pub ends : end ≡ at + length text

@@ -1,0 +1,26 @@
+// Standard input and output. The C library's read and write say nothing of the bytes, so that these functions have no equation.
+use crate::walk;
+ghost use mathlib.Core.Path.{_≡_};
+ghost use lib.ListN.{length};
+
+// Room for the text of any log: one write prints it.
+fn text_buffer() -> [u8; 262144]
+    ensures { λ r. ⌜ 262144 ≡ length r ⌝ }
+{
+    [0; 262144]
+}
+
+// Prints the text of a log.
+pub fn print_text(log: &[u8]) {
+    let mut out = text_buffer();
+    let count = walk::log_text(log, &mut out);
+    io::write_all(libc::STDOUT_FILENO, &out[..count]);
+}
+
+// Prints the text of the log on standard input. A log has at most 98 + 37 + 24,576 bytes; what stands behind 65,536 isn't read, since the
+// pairs are above 4,096 without it.
+pub fn walk_input() {
+    let mut input = io::large_buffer();
+    let count = io::read_full(libc::STDIN_FILENO, &mut input);
+    print_text(&input[..count]);
+}
