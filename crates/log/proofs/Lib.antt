@@ -4,3 +4,4 @@ pub mod LineLaws
 pub mod PartLaws
 pub mod RunLaws
 pub mod RoomLaws
+pub mod CutLaws

@@ -17,8 +17,8 @@ pub fn print_text(log: &[u8]) {
     io::write_all(libc::STDOUT_FILENO, &out[..count]);
 }
 
-// Prints the text of the log on standard input. A log has at most 98 + 37 + 24,576 bytes; what stands behind 65,536 isn't read, since the
-// pairs are above 4,096 without it.
+// Prints the text of the log on standard input. No log has more than 98 + 37 + 24,576 bytes; of longer input the first 65,536 are read,
+// whose text is that of all of it (`text-of-cut`): the pairs are above 4,096 anyway.
 pub fn walk_input() {
     let mut input = io::large_buffer();
     let count = io::read_full(libc::STDIN_FILENO, &mut input);
