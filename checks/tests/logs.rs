@@ -1,7 +1,7 @@
 //! The sample logs in `examples/` are the ones that the rules write, and each
-//! number that a log can meet has one.
+//! number that a log can meet has one. The programs are run on those logs.
 
-use checks::log::{samples, table, walk};
+use checks::log::{replay, samples, table, walk};
 use std::fs;
 use std::path::Path;
 
@@ -18,6 +18,15 @@ fn stored_as_the_rules_write_them() {
         assert_eq!(text, walk(&log.bytes), "{}.txt differs", log.name);
     }
     assert_eq!(String::from_utf8(stored("logs/README.md")).unwrap(), table());
+}
+
+#[test]
+fn the_programs_read_and_print_the_samples() {
+    assert!(stored("../crates/walk_log/stdin") == stored("third_row.log"), "walk_log/stdin differs");
+    assert!(stored("../crates/walk_log/stdout") == stored("third_row.txt"), "walk_log/stdout differs");
+    let (input, output) = replay();
+    assert!(stored("../crates/replay/stdin") == input, "replay/stdin differs");
+    assert!(stored("../crates/replay/stdout") == output.as_bytes(), "replay/stdout differs");
 }
 
 #[test]
