@@ -1,5 +1,5 @@
 # make test: every check that the project has; the last line is the prover's own verdict.
-.PHONY: test checks bench check fmt
+.PHONY: test checks demo bench check fmt
 
 test: checks
 	rt fmt --check
@@ -8,6 +8,11 @@ test: checks
 # The archive held against document 01 in Rust, over fractions, and what the C programs say.
 checks:
 	sh checks/run.sh
+
+# The log program on the board's third row. It is proved and built first, which takes some minutes in a clean clone.
+demo:
+	rt check walk_log >/dev/null
+	target/bin/walk_log < examples/third_row.log
 
 # Nanoseconds a pair, beside plain Rust.
 bench:

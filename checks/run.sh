@@ -1,8 +1,9 @@
 #!/bin/sh
 # The evidence beside the proofs: builds the archive, holds it against document
-# 01's rules over fractions, runs the C programs and looks at what the archive
-# needs. Few lines where all is well; otherwise what failed, and another exit
-# status than 0. TIE_ROD_LIB names an archive that is there already.
+# 01's rules over fractions, runs the C programs, looks at what the archive
+# needs, and runs the log program on every sample log. Few lines where all is
+# well; otherwise what failed, and another exit status than 0. TIE_ROD_LIB names
+# an archive that is there already.
 set -eu
 cd "$(dirname "$0")/.."
 
@@ -47,6 +48,21 @@ quiet diff examples/firmware.stdout "$out/firmware.stdout"
 quiet $compile -o "$out/stack" checks/stack.c "$TIE_ROD_LIB"
 quiet "$out/stack"
 cat "$out/log"
+
+# The log program on every sample, and, within 32 MiB, on input that doesn't end.
+quiet rt check walk_log
+program=target/bin/walk_log
+logs=0
+for log in examples/*.log examples/logs/*.log; do
+    "$program" <"$log" >"$out/text"
+    quiet diff "${log%.log}.txt" "$out/text"
+    logs=$((logs + 1))
+done
+(head -c 57 examples/third_row.log && cat /dev/zero) 2>"$out/log" |
+    (ulimit -v 32768 && timeout 20 "$program") >"$out/text"
+printf 'pair stress plastic tangent yielded\nrefused 7 at 0\n' >"$out/expected"
+quiet diff "$out/expected" "$out/text"
+echo "walk_log: $logs logs print as stored; endless input is refused"
 
 start=$(date +%s)
 CARGO_TARGET_DIR=target/cargo
