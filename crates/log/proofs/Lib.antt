@@ -5,3 +5,4 @@ pub mod PartLaws
 pub mod RunLaws
 pub mod RoomLaws
 pub mod CutLaws
+pub mod ThirdRow

@@ -4,11 +4,11 @@ use Prim.Native.Char.{code}
 use Prim.Native.String as string
 use Prim.Native.String.{String}
 use mathlib.Core.Path.{_≡_}
+use mathlib.Core.Bool.{Bool, true, false}
 use mathlib.Core.List.{List, [], _∷_, _++_}
 use lib.ListN.{length}
 use lib.IntN.{ℤ, pos, negsuc}
 use lib.Dec.{ltb}
-use Rattle.refusals.specs.Table.{pick}
 use Rattle.bits.specs.Layout.{put}
 
 -- The bytes of a text, one for each of its letters.
@@ -20,13 +20,17 @@ ascii (string._∷_ c rest) = code c ∷ ascii rest
 abbrev pub digit : ℕ → ℕ
 digit d = 48 + d
 
--- The decimal digits of a number, of which there are at most so many: below ten it is one digit, else the digits of its tenth part and
--- then its last one.
+-- A number below ten is one digit; any other is the digits of its tenth part, and then its last one.
+abbrev pub digitsBy : (short : Bool) → ℕ → (tenth : ℕ → List ℕ) → List ℕ
+digitsBy true n tenth = digit n ∷ []
+digitsBy false n tenth = tenth (n / 10) ++ (digit (n % 10) ∷ [])
+
+-- The digits of a number that has at most so many,
 unfoldable pub digitsWithin : (most n : ℕ) → List ℕ
 digitsWithin zero n = []
-digitsWithin (suc most) n = pick (ltb n 10) (digit n ∷ []) (digitsWithin most (n / 10) ++ (digit (n % 10) ∷ []))
+digitsWithin (suc most) n = digitsBy (ltb n 10) n (digitsWithin most)
 
--- A number in decimal. No number has more digits than the next greater one counts.
+-- and of any number n: n + 1 digits are always enough.
 unfoldable pub numeral : ℕ → List ℕ
 numeral n = digitsWithin (suc n) n
 
