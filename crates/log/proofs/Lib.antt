@@ -6,3 +6,4 @@ pub mod RunLaws
 pub mod RoomLaws
 pub mod CutLaws
 pub mod ThirdRow
+pub mod EarlyLaws
