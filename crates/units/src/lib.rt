@@ -164,7 +164,8 @@ impl Magnitude {
         Magnitude(self.0 - other.0)
     }
 
-    // The share tangent / modulus, rounded down; the quotient and the remainder apart, so that no product leaves 64 bits.
+    // The share tangent / modulus, rounded down: one division where the product fits 64 bits, as the bounds 2 ^ 20 and 2 ^ 44 make sure;
+    // else the quotient and the remainder apart, so that no product leaves 64 bits.
     pub fn share(self, tangent: Modulus, modulus: Modulus) -> Magnitude
         requires { ⌜ (0 < modulus .0) × (tangent .0 ≤ modulus .0) × (modulus .0 ≤ 2 ^ 32) ⌝ }
         ensures { λ r. ⌜ r ≡ magnitude (self .0 * tangent .0 / modulus .0) ⌝ }
@@ -173,6 +174,12 @@ impl Magnitude {
         let d = self.0;
         let t = tangent.0;
         let e = modulus.0;
+        if t < 1048576 {
+            if d < 17592186044416 {
+                let product = d * t;
+                return Magnitude(product / e);
+            }
+        }
         let parts = (d / e) * t;
         let rest = (d % e) * t;
         let share = parts + rest / e;

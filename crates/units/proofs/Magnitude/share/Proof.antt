@@ -1,35 +1,50 @@
-use mathlib.Core.Path.{ap}
+use mathlib.Core.Path.{refl, ap}
 use native.Mathlib.Omega.{arith}
 use borrow.Author.Needs.{needs}
 use mir.Syntax.{w64}
 use mir.Val.{Fits}
 use mir.Facts.{fits-le}
 use Rattle.units.specs.Kinds.{magnitude}
-use Rattle.units.proofs.Floors.{in-parts, parts-at-most, rest-below}
+use Rattle.units.proofs.Floors.{in-parts, floor-at-most, parts-at-most, rest-below, product-below}
 use Rattle.units.proofs.Magnitude.share.Statement.{statement}
 use Rattle.units.proofs.Magnitude.share.Tie as tie
 
-word : (c : tie.Start) → Fits w64 (c .args .self .0)
-word c = search needs
+mul-product : tie.Need-mul-product
+mul-product c =
+    let s = c .before .before in
+    record { fits = product-below (s .args .self .0) (s .args .tangent .0) (c .if2 .taken) (c .before .if1 .taken) }
+
+returns : tie.Need-returns
+returns c =
+    let s = c .before .before in
+    (refl, floor-at-most (s .args .self .0) (s .args .tangent .0) (s .args .modulus .0) (s .pre .1))
+
+word : (s : tie.Start) → Fits w64 (s .args .self .0)
+word s = search needs
 
 mul-parts : tie.Need-mul-parts
 mul-parts c =
-    fits-le (omega (arith, parts-at-most (c .args .self .0) (c .args .tangent .0) (c .args .modulus .0) (c .pre .0) (c .pre .1))) (word c)
+    let s = c .before in
+    fits-le (omega (arith, parts-at-most (s .args .self .0) (s .args .tangent .0) (s .args .modulus .0) (s .pre .0) (s .pre .1))) (word s)
 
 mul-rest : tie.Need-mul-rest
 mul-rest c =
-    record { fits = rest-below (c .args .self .0) (c .args .tangent .0) (c .args .modulus .0) (c .pre .0) (c .pre .1) (c .pre .2) }
+    let s = c .before in
+    record { fits = rest-below (s .args .self .0) (s .args .tangent .0) (s .args .modulus .0) (s .pre .0) (s .pre .1) (s .pre .2) }
 
 add-share : tie.Need-add-share
 add-share c =
-    fits-le (parts-at-most (c .args .self .0) (c .args .tangent .0) (c .args .modulus .0) (c .pre .0) (c .pre .1)) (word c)
+    let s = c .before in
+    fits-le (parts-at-most (s .args .self .0) (s .args .tangent .0) (s .args .modulus .0) (s .pre .0) (s .pre .1)) (word s)
 
-returns : tie.Need-returns
-returns c = (
-  ap magnitude (in-parts (c .args .self .0) (c .args .tangent .0) (c .args .modulus .0) (c .pre .0)),
-  parts-at-most (c .args .self .0) (c .args .tangent .0) (c .args .modulus .0) (c .pre .0) (c .pre .1),
-)
+returns-2 : tie.Need-returns-2
+returns-2 c =
+    let s = c .before in (
+      ap magnitude (in-parts (s .args .self .0) (s .args .tangent .0) (s .args .modulus .0) (s .pre .0)),
+      parts-at-most (s .args .self .0) (s .args .tangent .0) (s .args .modulus .0) (s .pre .0) (s .pre .1),
+    )
 
 pub share-spec : {M : Type 1} → statement M
 share-spec =
-    tie.close (tie.spec (λ c. search needs) mul-parts (λ c. search needs) mul-rest (λ c. search needs) add-share returns)
+    tie.close
+    (tie.spec mul-product (λ c. search needs) returns (λ c. search needs) mul-parts (λ c. search needs) mul-rest (λ c. search needs) add-share returns-2)
