@@ -1,12 +1,13 @@
 -- Laws of whole numbers with a sign, as the machine holds them, and of tests between them.
-use Prim.Native.Nat.{ℕ, zero, suc, _+_, _-_, _*_, _/_, _^_, _≤_, _<_}
+use Prim.Native.Nat.{ℕ, zero, suc, _+_, _-_, _*_, _/_, _%_, _^_, _≤_, _<_}
 use mathlib.Core.Path.{_≡_, refl, sym, ap, ap₂, _∙_}
 use mathlib.Core.Bool.{Bool, true, false, not, true≢false}
+use native.Mathlib.Nat.{one-mul, mod-eq-of-lt, add-mod-right}
 use native.Mathlib.Omega.{arith}
 use borrow.Author.Tests.{ltb-true, ltb-false, lt-leb, le-leb, lt-ltb, le-ltb}
 use lib.IntN.{ℤ, pos, negsuc, _-ℤ_}
 use lib.Dec.{ltb, leb, eqb}
-use lib.Pow.{pow-mono, ones-split, ones-lt, high}
+use lib.Pow.{pow-mono, pow-pos, ones-split, ones-lt, high, shl-exact}
 use lib.Signed.{ltZ, leZ, mag}
 use mir.Facts.{toZ-ofZ}
 use mir.Syntax.{w64}
@@ -73,7 +74,12 @@ ones-shifted w h =
     let split : 18446744073709551615 ≡ (2 ^ w - 1) * 2 ^ (64 - w) + (2 ^ (64 - w) - 1) = ap (λ (k : ℕ). 2 ^ k - 1) both ∙ ones-split w (64 - w) in
     ap (λ (n : ℕ). n / 2 ^ (64 - w)) split ∙ high (2 ^ w - 1) (64 - w) (ones-lt (64 - w))
 
-half : (w : ℕ) → 1 ≤ w → 2 ^ w ≡ 2 * 2 ^ (w - 1)
+-- A power of two is a one of 64 bits, shifted up,
+pub one-shifted : (w : ℕ) → w < 64 → 1 * 2 ^ w % 2 ^ 64 ≡ 2 ^ w
+one-shifted w h = shl-exact {a = 1} 1 w 64 (omega arith) (omega arith) ∙ one-mul (2 ^ w)
+
+-- and twice the one before it.
+pub half : (w : ℕ) → 1 ≤ w → 2 ^ w ≡ 2 * 2 ^ (w - 1)
 half (suc n) h = rw (sub-one-suc n) (omega arith)
   where
     sub-one-suc : (n : ℕ) → suc n - 1 ≡ n
@@ -92,6 +98,34 @@ unfolding twos
 twos-high w x h b l =
     let large : 2 ^ (w - 1) ≤ x = omega (arith, half w h) in
     (rw (le-ltb x (2 ^ (w - 1)) large), omega (arith, half w h))
+
+-- Two numbers, the second not zero: their difference where the first is not below the second, and where it is.
+difference-up : (a h : ℕ) → 0 < h → pos (a + h) -ℤ pos h ≡ pos a
+difference-up a zero some = absurd (omega arith)
+difference-up a (suc h) some = rw (le-ltb (a + suc h) (suc h) (omega arith)) (ap pos (omega arith))
+
+difference-down : (a h : ℕ) → a < h → pos a -ℤ pos h ≡ negsuc (h - 1 - a)
+difference-down a zero below = absurd (omega arith)
+difference-down a (suc h) below = rw (lt-ltb a (suc h) below) (ap negsuc (omega arith))
+
+-- Half of the width's numbers added to bits, the sum cut to the width, and that half taken off: what the bits stand for.
+pub twos-raised : (w x : ℕ) → 1 ≤ w → x < 2 ^ w → pos ((x + 2 ^ (w - 1)) % (2 * 2 ^ (w - 1))) -ℤ pos (2 ^ (w - 1)) ≡ twos w x
+unfolding twos
+twos-raised w x h b = by-test (ltb x (2 ^ (w - 1))) refl
+  where
+    middle : ℕ
+    middle = 2 ^ (w - 1)
+
+    by-test : (t : Bool) → ltb x middle ≡ t → pos ((x + middle) % (2 * middle)) -ℤ pos middle ≡ pick t (pos x) (negsuc (2 ^ w - 1 - x))
+    by-test true e =
+        let whole : (x + middle) % (2 * middle) ≡ x + middle = mod-eq-of-lt (omega (arith, ltb-true x middle e)) in
+        rw whole (difference-up x middle (pow-pos (w - 1)))
+    by-test false e =
+        let large = ltb-false x middle e in
+        let over : x + middle ≡ x - middle + 2 * middle = omega arith in
+        let cut : (x + middle) % (2 * middle) ≡ x - middle =
+        ap (λ (n : ℕ). n % (2 * middle)) over ∙ add-mod-right (x - middle) (2 * middle) ∙ mod-eq-of-lt (omega (arith, half w h)) in
+        rw cut (difference-down (x - middle) middle (omega (arith, half w h)) ∙ ap negsuc (omega (arith, half w h)))
 
 -- The bits of a number that the width holds are below its power of two,
 pub bits-below : (w : ℕ) (z : ℤ) → 1 ≤ w → Held w z → bitsOf w z < 2 ^ w

@@ -110,11 +110,27 @@ fn greatest(width: usize) -> u64
     18446744073709551615 >> (64 - width)
 }
 
-// The whole number that bits stand for in two's complement: below half of the width's numbers it is the bits' own.
+// The whole number that fewer than 64 bits stand for in two's complement. With no branch: half of the width's numbers is added, the sum is
+// cut to the width, and that half is taken off again.
+fn narrow_number(x: u64, width: usize) -> i64
+    requires { ⌜ (1 ≤ width) × (width < 64) × (x < 2 ^ width) ⌝ }
+    ensures { λ r. ⌜ r ≡ twos width x ⌝ }
+{
+    let half: u64 = 1 << (width - 1);
+    let raised = (x + half) % (2 * half);
+    let above = raised as i64;
+    let least = half as i64;
+    above - least
+}
+
+// The same for up to 64 bits. 2 ^ 64 fits no word, so that all 64 are told by a test: below half of their numbers it is the bits' own.
 fn whole_number(x: u64, width: usize) -> i64
     requires { ⌜ (1 ≤ width) × (width ≤ 64) × (x < 2 ^ width) ⌝ }
     ensures { λ r. ⌜ r ≡ twos width x ⌝ }
 {
+    if width < 64 {
+        return narrow_number(x, width);
+    }
     let rest = greatest(width) - x;
     if x <= rest {
         return x as i64;

@@ -2,15 +2,12 @@
 use Prim.Native.Nat.{ℕ, _+_, _-_, _*_, _/_, _%_, _^_, _≤_}
 use mathlib.Core.Path.{_≡_, _∙_}
 use borrow.Author.Needs.{needs}
-use native.Mathlib.Nat.{one-mul}
 use native.Mathlib.Omega.{arith}
-use lib.Pow.{shl-exact, pow-pos}
+use lib.Pow.{pow-pos}
 use Rattle.bits.proofs.FieldLaws.{field-inside}
+use Rattle.bits.proofs.SignLaws.{one-shifted}
 use Rattle.bits.proofs.in_a_word.Statement.{statement}
 use Rattle.bits.proofs.in_a_word.Tie as tie
-
-one-shifted : (w : ℕ) → w ≤ 56 → 1 * 2 ^ w % 2 ^ 64 ≡ 2 ^ w
-one-shifted w h = shl-exact {a = 1} 1 w 64 (omega arith) (omega arith) ∙ one-mul (2 ^ w)
 
 rem-result : tie.Need-rem-result
 rem-result c = let w = c .before .before .args .width in rw (one-shifted w (omega arith)) (pow-pos w)

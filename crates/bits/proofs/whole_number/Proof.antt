@@ -9,15 +9,15 @@ use Rattle.bits.proofs.SignLaws.{twos-low, twos-high, held-as}
 use Rattle.bits.proofs.whole_number.Statement.{statement}
 use Rattle.bits.proofs.whole_number.Tie as tie
 
-returns : tie.Need-returns
-returns c =
-    let start = c .before .before in
-    let a = start .args in
-    toZ-pos w64 (omega arith) ∙ sym (twos-low (a .width) (a .x) (start .pre .0) (start .pre .2) (omega (arith, c .before .greatest .ensures)) .0)
-
 returns-2 : tie.Need-returns-2
 returns-2 c =
     let start = c .before .before .before in
+    let a = start .args in
+    toZ-pos w64 (omega arith) ∙ sym (twos-low (a .width) (a .x) (start .pre .0) (start .pre .2) (omega (arith, c .before .greatest .ensures)) .0)
+
+returns-3 : tie.Need-returns-3
+returns-3 c =
+    let start = c .before .before .before .before in
     let a = start .args in
     let rest = c .before .before .greatest .ensures in
     held-as (c .below-zero .ok)
@@ -26,4 +26,4 @@ returns-2 c =
 pub whole-number-spec : {M : Type 1} → statement M
 whole-number-spec =
     tie.close
-    (tie.spec (λ c κs. search needs) (λ c. search needs) (λ c. search needs) returns (λ c κs. search needs) returns-2)
+    (tie.spec (λ c κs. search needs) (λ c. search needs) (λ c κs. search needs) (λ c. search needs) (λ c. search needs) returns-2 (λ c κs. search needs) returns-3)
