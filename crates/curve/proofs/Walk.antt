@@ -1,7 +1,7 @@
 -- The walk over the segments of a side: what is true at each segment that it reaches, and what it reads where it stops. Assumes nothing.
 use Prim.Native.Nat.{ℕ, _+_, _-_, _*_, _/_, _^_, _≤_, _<_, min}
 use mathlib.Core.Path.{_≡_, _∙_}
-use native.Mathlib.Nat.{mul-add-div, mul-div-right, mul-le-mul, mul-le-mul-right, div-le-of-le-mul}
+use native.Mathlib.Nat.{add-zero, mul-add-div, mul-div-right, mul-le-mul, mul-le-mul-right, div-le-of-le-mul}
 use native.Mathlib.Omega.{arith}
 use lib.ListN.{length, take, getD}
 use Rattle.units.specs.Kinds.{magnitude}
@@ -120,6 +120,16 @@ module _ {e : Modulus} {side : Side} {all carried past i : ℕ} (r : Reached e s
       stop
       (rw (from-last side fits i h) (rise-last (e .0) (tangentOf side i) past))
       (rw (from-last side fits i h) (tangent-last (e .0) (yieldOf side + (all - past)) (yieldOf side + all) (tangentOf side i) (omega arith)))
+
+-- A side of one segment is read there, from the yield on.
+pub alone : (e : Modulus) (side : Side) (a : Magnitude) → Readable side e → length (side .segments) ≡ 7 → a .0 < 2 ^ 64 → yieldOf side ≤ a .0 → side .count ≡ 1
+    → (reading : Reading) → reading ≡ record { limit = magnitude (yieldOf side + (a .0 - yieldOf side) * tangentOf side 0 / e .0); tangent = getD (side .segments) 0 flat .tangent }
+    → (reading ≡ readingOf side e a) × (reading .limit .0 ≤ a .0)
+alone e side a readable array word from-yield one reading is =
+    let all = a .0 - yieldOf side in
+    let lies : a .0 ≡ yieldOf side + all = omega arith in
+    let reached = begun e side all readable array (rw (← lies) word) in
+    stop-last reached (omega arith) reading (rw (add-zero (yieldOf side)) is) a lies
 
 -- Below the yield no segment is reached.
 pub below-yield : (e : Modulus) (side : Side) (a : Magnitude) → 0 < e .0 → a .0 < yieldOf side → record { limit = a; tangent = e } ≡ readingOf side e a

@@ -40,7 +40,7 @@ impl Segment {
 }
 
 impl Side {
-    // One walk: each segment is taken once, and the rise so far is carried along.
+    // A side of one segment is read at once; the walk over several stands apart, since it copies their array.
     pub fn at(self, modulus: Modulus, abscissa: Magnitude) -> Reading
         requires { ⌜ Readable self modulus ⌝ }
         ensures { λ r. ⌜ r ≡ readingOf self modulus abscissa ⌝ }
@@ -53,6 +53,20 @@ impl Side {
                 tangent: modulus,
             };
         }
+        if self.count == 1 {
+            let segment = self.segments[0];
+            return segment.reading(modulus, yield_stress, abscissa.minus(yield_stress));
+        }
+        self.walk(modulus, abscissa)
+    }
+
+    // One walk: each segment is taken once, and the rise so far is carried along.
+    fn walk(self, modulus: Modulus, abscissa: Magnitude) -> Reading
+        requires { ⌜ Readable self modulus × (self .«yield_stress» .0 ≤ abscissa .0) ⌝ }
+        ensures { λ r. ⌜ r ≡ readingOf self modulus abscissa ⌝ }
+        ensures most { λ r. ⌜ r .limit .0 ≤ abscissa .0 ⌝ }
+    {
+        let yield_stress = self.yield_stress;
         let last = self.count - 1;
         let mut rise = Magnitude(0);
         let mut past = abscissa.minus(yield_stress);

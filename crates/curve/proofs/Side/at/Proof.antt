@@ -1,138 +1,47 @@
--- `Side::at` meets its contract. The loop keeps `Reached`: what is carried is the rise up to the segment reached. Assumes nothing.
-use Prim.Native.Nat.{_+_, _-_, _≤_, _<_}
+-- `Side::at` meets its contract. Assumes nothing.
+use Prim.Native.Nat.{_≤_}
 use mathlib.Core.Path.{_≡_, sym, _∙_}
 use native.Mathlib.Omega.{arith}
 use lib.ListN.{length, length-map}
 use borrow.Author.Needs.{needs}
 use borrow.Author.Tests.{ltb-true, ltb-false}
-use Rattle.curve.proofs.Walk.{yieldOf, Reached, begun, span-fits, rise-at-most-span, onward, stop-within, stop-last, below-yield}
+use Rattle.curve.proofs.Walk.{yieldOf, alone, below-yield}
 use Rattle.curve.proofs.Side.at.Statement.{statement}
 use Rattle.curve.proofs.Side.at.Tie as tie
 
-abbrev Inv-loop : tie.InvT-loop
-Inv-loop modulus self yield-stress last rise₀ past₀ i₀ rise past i = Reached modulus self (past₀ .0) (rise .0) (past .0) i
-
-abbrev μ-loop : tie.MeasureT-loop
-μ-loop modulus self yield-stress last rise₀ past₀ i₀ rise past i = last - i
-
-returns : tie.Need-returns Inv-loop μ-loop
+returns : tie.Need-returns
 returns c =
     let s = c .before .before .before in
     let below = ltb-true (s .args .abscissa .0) (yieldOf (s .args .t1)) (sym (c .before .below .ensures) ∙ c .if1 .taken) in
     (below-yield (s .args .modulus) (s .args .t1) (s .args .abscissa) (s .pre .modulus-positive) below, search needs)
 
-past-yield : (c : tie.Else1 Inv-loop μ-loop) → let s = c .before .before .before in yieldOf (s .args .t1) ≤ s .args .abscissa .0
+past-yield : (c : tie.Else1) → let s = c .before .before .before in yieldOf (s .args .t1) ≤ s .args .abscissa .0
 past-yield c =
     let s = c .before .before .before in
     ltb-false (s .args .abscissa .0) (yieldOf (s .args .t1)) (sym (c .before .below .ensures) ∙ c .if1 .left)
 
-whole : (c : tie.After-minus Inv-loop μ-loop) → let s = c .before .before .before .before in s .args .abscissa .0 ≡ yieldOf (s .args .t1) + c .minus .result .0
-whole c = rw (c .minus .ensures) (omega (arith, past-yield (c .before)))
-
-seven : (s : tie.Start Inv-loop μ-loop) → length (s .args .t1 .segments) ≡ 7
+seven : (s : tie.Start) → length (s .args .t1 .segments) ≡ 7
 seven s = simp length-map at (s .good .0 .1 .1 .1 .1 .0 .1 .0 .1)
 
-loop-holds : tie.Need-loop-holds Inv-loop μ-loop
-loop-holds c =
-    let s = c .before .before .before .before in
-    begun (s .args .modulus) (s .args .t1) (c .minus .result .0) (s .pre) (seven s) (rw (← whole c) (search needs))
+minus-requires : tie.Need-minus-requires
+minus-requires c κs = past-yield (c .before .before)
 
-minus-requires : tie.Need-minus-requires Inv-loop μ-loop
-minus-requires c κs = past-yield c
-
-times-requires : tie.Need-times-requires Inv-loop μ-loop
-times-requires c κs = span-fits (c .before .before .loop .inv)
-
-within : (c : tie.Then2 Inv-loop μ-loop) → let loop = c .before .before .before .before .before .loop in loop .past .0 < c .before .before .times .result .0
-within c =
-    let loop = c .before .before .before .before .before .loop in
-    ltb-true (loop .past .0) (c .before .before .times .result .0) (sym (c .before .below2 .ensures) ∙ c .if2 .taken)
-
-ends : (c : tie.Else2 Inv-loop μ-loop) → let loop = c .before .before .before .before .before .loop in c .before .before .times .result .0 ≤ loop .past .0
-ends c =
-    let loop = c .before .before .before .before .before .loop in
-    ltb-false (loop .past .0) (c .before .before .times .result .0) (sym (c .before .below2 .ensures) ∙ c .if2 .left)
-
-plus-requires : tie.Need-plus-requires Inv-loop μ-loop
-plus-requires c κs = let inv = c .before .before .before .before .before .loop .inv in omega (arith, inv .word, inv .room)
-
-reading-requires : tie.Need-reading-requires Inv-loop μ-loop
+reading-requires : tie.Need-reading-requires
 reading-requires c κs =
-    let inv = c .before .before .before .before .before .before .loop .inv in
-    ((inv .readable .modulus-positive, inv .readable .tangents-fit _ (inv .index), inv .readable .modulus-fits), rw (c .plus .ensures) (omega (arith, inv .word, inv .room)))
-
-returns-2 : tie.Need-returns-2 Inv-loop μ-loop
-returns-2 c =
-    let then = c .before .before in
-    let times = then .before .before in
-    let turn = times .before .before in
-    stop-within (turn .before .loop .inv) (omega arith) (rw (times .times .ensures) at (within then)) (c .reading .result) (rw (c .before .plus .ensures) at (c .reading .ensures)) _ (whole (turn .before .before))
-
-minus-requires-2 : tie.Need-minus-requires-2 Inv-loop μ-loop
-minus-requires-2 c κs = ends c
-
-times-requires-2 : tie.Need-times-requires-2 Inv-loop μ-loop
-times-requires-2 c κs =
-    let inv = c .before .before .before .before .before .before .loop .inv in
-    omega (arith, span-fits inv, rise-at-most-span inv)
-
-plus-requires-2 : tie.Need-plus-requires-2 Inv-loop μ-loop
-plus-requires-2 c κs =
-    let else = c .before .before in
-    let inv = else .before .before .before .before .before .loop .inv in
-    rw (c .times2 .ensures)
-    (omega (arith, inv .word, inv .room, rise-at-most-span inv, rw (else .before .before .times .ensures) at (ends else)))
-
-loop-again : tie.Need-loop-again Inv-loop μ-loop
-loop-again c =
     let else = c .before .before .before in
-    let times = else .before .before in
-    rw (c .plus2 .ensures, c .before .times2 .ensures, c .before .before .minus2 .ensures, times .times .ensures)
-    (onward (times .before .before .before .loop .inv) (omega arith) (rw (times .times .ensures) at (ends else)))
+    let s = else .before .before .before in
+    ((s .pre .modulus-positive, s .pre .tangents-fit 0 (s .pre .count-positive), s .pre .modulus-fits), rw (c .minus .ensures) (omega (arith, past-yield else)))
 
-plus-requires-3 : tie.Need-plus-requires-3 Inv-loop μ-loop
-plus-requires-3 c κs = let inv = c .before .before .loop .inv in omega (arith, inv .word, inv .room)
+returns-2 : tie.Need-returns-2
+returns-2 c =
+    let then = c .before .before .before in
+    let s = then .before .before .before .before in
+    alone (s .args .modulus) (s .args .t1) (s .args .abscissa) (s .pre) (seven s) (search needs) (past-yield (then .before)) (then .if2 .taken) (c .reading .result) (rw (c .before .minus .ensures) at (c .reading .ensures))
 
-reading-requires-2 : tie.Need-reading-requires-2 Inv-loop μ-loop
-reading-requires-2 c κs =
-    let inv = c .before .before .before .loop .inv in
-    ((inv .readable .modulus-positive, inv .readable .tangents-fit _ (omega (arith, inv .readable .count-positive)), inv .readable .modulus-fits), rw (c .plus3 .ensures) (omega (arith, inv .word, inv .room)))
-
-at-last : (c : tie.After-loop Inv-loop μ-loop) → c .before .before .before .before .before .before .args .t1 .count - 1 ≡ c .before .loop .i
-at-last c = omega (arith, c .before .loop .inv .index)
-
-returns-3 : tie.Need-returns-3 Inv-loop μ-loop
-returns-3 c =
-    let after = c .before .before .before in
-    let inv = after .before .loop .inv in
-    stop-last inv (omega (arith, inv .index, at-last after)) (c .reading2 .result) (rw (c .before .plus3 .ensures, at-last after) at (c .reading2 .ensures)) _ (whole (after .before .before))
+walk-requires : tie.Need-walk-requires
+walk-requires c κs = (search needs, past-yield (c .before))
 
 pub at-spec : {M : Type 1} → statement M
 at-spec =
     tie.close
-    (tie.spec
-    Inv-loop
-    μ-loop
-    (λ c κs. search needs)
-    returns
-    (λ c. search needs)
-    minus-requires
-    loop-holds
-    (λ c. search needs)
-    (λ c. search needs)
-    times-requires
-    (λ c κs. search needs)
-    plus-requires
-    reading-requires
-    returns-2
-    minus-requires-2
-    times-requires-2
-    plus-requires-2
-    (λ c. search needs)
-    (λ c. search needs)
-    loop-again
-    (λ c. search needs)
-    (λ c. search needs)
-    plus-requires-3
-    reading-requires-2
-    returns-3)
+    (tie.spec (λ c κs. search needs) returns (λ c. search needs) minus-requires reading-requires returns-2 walk-requires (λ c. search needs))
