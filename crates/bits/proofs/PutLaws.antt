@@ -5,7 +5,7 @@ use mathlib.Core.List.{List, [], _∷_, _++_, append-assoc}
 use native.Mathlib.Nat.{add-zero, add-suc}
 use native.Mathlib.Omega.{arith}
 use lib.ListN.{length, take, drop, set, length-append, length-drop, length-set, take-append-drop}
-use lib.Seq.{take-set-le, drop-cons, drop-set-lt, getD-set-same, take-at, drop-drop, length-take-le, drop-append-add}
+use lib.Seq.{take-set-le, drop-cons, drop-set-lt, getD-set-same, take-at, take-take, drop-drop, length-take-le, take-append-le, drop-append-add, drop-append-seam}
 use Rattle.bits.specs.Layout.{bytesOf, put}
 
 pub length-bytesOf : (n x : ℕ) → length (bytesOf n x) ≡ n
@@ -47,3 +47,20 @@ put-behind buffer at front back h =
     let rest : drop (place + length back) (head ++ drop place buffer) ≡ drop (at + length (front ++ back)) buffer =
     ap (λ (k : ℕ). drop (k + length back) (head ++ drop place buffer)) (sym long) ∙ drop-append-add head (drop place buffer) (length back) ∙ drop-drop (length back) place buffer ∙ ap (λ (k : ℕ). drop k buffer) back-at in
     rw (whole, take-at head (drop place buffer) place long, rest) (simp append-assoc)
+
+-- Bytes written in front of others, and over the first of them: those that were covered are gone.
+pub put-over : (buffer : List ℕ) (at k : ℕ) (front covered back : List ℕ) → length front ≡ k + length covered → at + k ≤ length buffer
+    → put (put buffer (at + k) (covered ++ back)) at front ≡ put buffer at (front ++ back)
+unfolding put
+put-over buffer at k front covered back e h =
+    let place = at + k in
+    let head = take place buffer in
+    let rest = drop (place + length (covered ++ back)) buffer in
+    let long : length head ≡ place = length-take-le place buffer h in
+    let kept : take at (head ++ ((covered ++ back) ++ rest)) ≡ take at buffer =
+    take-append-le at head ((covered ++ back) ++ rest) (rw long (omega arith)) ∙ take-take at place buffer (omega arith) in
+    let front-end : at + length front ≡ length head + length covered = rw (long, e) (omega arith) in
+    let left : drop (at + length front) (head ++ ((covered ++ back) ++ rest)) ≡ back ++ rest =
+    ap (λ (n : ℕ). drop n (head ++ ((covered ++ back) ++ rest))) front-end ∙ drop-append-add head ((covered ++ back) ++ rest) (length covered) ∙ ap (drop (length covered)) (append-assoc covered back rest) ∙ drop-append-seam covered (back ++ rest) in
+    let back-end : place + length (covered ++ back) ≡ at + length (front ++ back) = rw (length-append covered back, length-append front back, e) (omega arith) in
+    rw (kept, left, back-end) (sym (ap (λ (l : List ℕ). take at buffer ++ l) (append-assoc front back (drop (at + length (front ++ back)) buffer))))

@@ -153,6 +153,16 @@ bits-of-twos w x h l = by-test (ltb x (2 ^ (w - 1))) refl
     by-test true e = (refl, ltb-true x (2 ^ (w - 1)) e)
     by-test false e = (omega arith, omega (arith, half w h, ltb-false x (2 ^ (w - 1)) e))
 
+-- The bits that a wider width has more, before those of a width that holds the number: zeros, or ones below zero.
+abbrev pub signs : ℕ → ℤ → ℕ
+signs more (pos n) = 0
+signs more (negsuc n) = 2 ^ more - 1
+
+pub bits-wider : (more w : ℕ) (z : ℤ) → 1 ≤ w → Held w z → bitsOf (more + w) z ≡ signs more z * 2 ^ w + bitsOf w z
+unfolding bitsOf
+bits-wider more w (pos n) h l = omega arith
+bits-wider more w (negsuc n) h l = omega (arith, ones-split more w, half w h)
+
 -- A yes or no fits its bit, and is read back from it.
 pub flag-below : (b : Bool) → flag b < 2
 flag-below true = omega arith

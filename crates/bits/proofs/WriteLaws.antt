@@ -6,7 +6,10 @@ use native.Mathlib.Nat.{add-zero, add-suc, add-assoc}
 use native.Mathlib.Omega.{arith}
 use lib.ListN.{length}
 use lib.Pow.{pow-add}
+use lib.IntN.{ℤ}
+use Rattle.bits.specs.Field.{bitsOf, Held}
 use Rattle.bits.specs.Layout.{Part, widths, packed, bytesOf, put}
+use Rattle.bits.proofs.SignLaws.{bits-below, signs, bits-wider}
 use Rattle.bits.proofs.PutLaws.{length-bytesOf, put-behind}
 use Rattle.bits.proofs.LayoutLaws.{Fit, packed-below}
 
@@ -26,6 +29,13 @@ bytes-split m (suc n) front back h =
   where
     pow-more : 2 ^ (8 * suc n) ≡ 2 ^ (8 * n) * 256
     pow-more = let more : 8 * suc n ≡ 8 * n + 8 = omega arith in rw (more, pow-add 2 (8 * n) 8)
+
+-- A whole number that fewer bytes hold, written in more: its bytes in those, behind its sign.
+pub bytes-wider : (m n : ℕ) (z : ℤ) → 1 ≤ n → Held (8 * n) z
+    → bytesOf (m + n) (bitsOf (8 * (m + n)) z) ≡ bytesOf m (signs (8 * m) z) ++ bytesOf n (bitsOf (8 * n) z)
+bytes-wider m n z h l =
+    let wide : 8 * (m + n) ≡ 8 * m + 8 * n = omega arith in
+    rw (wide, bits-wider (8 * m) (8 * n) z (omega arith) l) (bytes-split m n (signs (8 * m) z) (bitsOf (8 * n) z) (bits-below (8 * n) z (omega arith) l))
 
 pub packed-alone : (p : Part) → packed (p ∷ []) ≡ p .value
 unfolding widths packed
@@ -51,7 +61,7 @@ fit-front [] ps f = tt
 fit-front (p ∷ fs) ps (v, f) = (v, fit-front fs ps f)
 
 -- The bytes of some fields, and then those of the others behind them.
-bytes-append : (fs ps : List Part) (m n : ℕ) → widths ps ≡ 8 * n → Fit (fs ++ ps) → bytesOf m (packed fs) ++ bytesOf n (packed ps) ≡ bytesOf (m + n) (packed (fs ++ ps))
+pub bytes-append : (fs ps : List Part) (m n : ℕ) → widths ps ≡ 8 * n → Fit (fs ++ ps) → bytesOf m (packed fs) ++ bytesOf n (packed ps) ≡ bytesOf (m + n) (packed (fs ++ ps))
 bytes-append fs ps m n e f =
     let below : packed ps < 2 ^ (8 * n) = rw e at (packed-below ps (fit-behind fs ps f)) in
     sym (bytes-split m n (packed fs) (packed ps) below) ∙ ap (bytesOf (m + n)) (ap (λ (k : ℕ). packed fs * 2 ^ k + packed ps) (sym e) ∙ sym (packed-append fs ps))
