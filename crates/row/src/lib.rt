@@ -49,9 +49,10 @@ impl Row {
         requires { ⌜ (at + rowLength ≤ length (now buffer)) × RowFits self ⌝ }
         ensures { λ _. ⌜ now (buffer .exit) ≡ put (now (buffer .entry)) at (rowBytes self) ⌝ }
     {
+        // Eight bytes where seven would do, so that the compiler joins their stores; the stress is written over the first.
+        bits::write_signed(buffer, at + 8, 8, self.plastic.0);
+        bits::write_signed(buffer, at + 3, 6, self.stress.0);
         let front = self.front();
         bits::write(buffer, at, 3, front);
-        bits::write_signed(buffer, at + 3, 6, self.stress.0);
-        bits::write_signed(buffer, at + 9, 7, self.plastic.0);
     }
 }

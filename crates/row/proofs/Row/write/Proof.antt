@@ -5,31 +5,26 @@ use Rattle.row.proofs.RowLaws.{put-row}
 use Rattle.row.proofs.Row.write.Statement.{statement}
 use Rattle.row.proofs.Row.write.Tie as tie
 
-write-signed-requires : tie.Need-write-signed-requires
-write-signed-requires c κs =
+write-signed-requires-2 : tie.Need-write-signed-requires-2
+write-signed-requires-2 c κs =
     let start = c .before .before .before .before .before .before .before .before in
     (search needs, search needs, search needs, held-passed 48 (start .args .self .stress .0) (start .pre .1 .stress) (omega arith))
 
-write-signed-requires-2 : tie.Need-write-signed-requires-2
-write-signed-requires-2 c κs =
-    let start = c .before .before .before .before .before .before .before .before .before .before .before .before .before in
-    (search needs, search needs, search needs, held-passed 56 (start .args .self .plastic .0) (start .pre .1 .plastic) (omega arith))
-
 returns : tie.Need-returns
 returns c =
-    let plastic = c .before .before in
-    let stress = plastic .before .before .before .before .before in
-    let first = stress .before .before .before .before .before in
-    let front = first .before .before in
-    let start = front .before .before in
+    let last = c .before .before in
+    let front = last .before .before in
+    let stress = front .before .before .before in
+    let plastic = stress .before .before .before .before .before in
+    let start = plastic .before .before .before .before in
     let r = start .args .self in
     let fits = start .pre .1 in
     let stress-is = passed 48 (r .stress .0) (fits .stress) (omega arith) in
     let plastic-is = passed 56 (r .plastic .0) (fits .plastic) (omega arith) in
-    rw (plastic .write-signed2 .ensures, stress .write-signed .ensures, first .write .ensures, front .front .ensures, stress-is, plastic-is)
+    rw (last .write .ensures, front .front .ensures, stress .write-signed2 .ensures, plastic .write-signed .ensures, stress-is, plastic-is)
     (put-row r fits (start .args .buffer .now) (start .args .at) (start .pre .0))
 
 pub write-spec : {M : Type 1} → statement M
 write-spec =
     tie.close
-    (tie.spec (λ c κs. search needs) (λ c κs. search needs) (λ c. search needs) write-signed-requires (λ c. search needs) write-signed-requires-2 (λ c. search needs) returns)
+    (tie.spec (λ c. search needs) (λ c κs. search needs) (λ c. search needs) write-signed-requires-2 (λ c κs. search needs) (λ c κs. search needs) (λ c. search needs) returns)
