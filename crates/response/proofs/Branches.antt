@@ -1,27 +1,26 @@
 -- How the sign and the magnitude of a trial make a law's answer: laws over the definitions, for the proofs of the functions.
 use Prim.Native.Nat.{ℕ, _+_, _-_, _*_, _/_, _≤_, _<_}
-use mathlib.Core.Path.{_≡_, refl}
+use mathlib.Core.Path.{_≡_, refl, sym, ap}
 use mathlib.Core.Bool.{Bool, true, false, true≢false}
 use lib.IntN.{ℤ, pos, negsuc, natAbs, _+ℤ_, _-ℤ_}
-use borrow.Author.Tests.{le-leb, lt-leb}
+use borrow.Author.Tests.{le-leb, lt-leb, ltb-true, ltb-false}
+use lib.Dec.{ltb}
 use Rattle.refusals.specs.Table.{pick}
 use Rattle.fractions.specs.Fraction.{signed}
 use Rattle.units.specs.declared.Magnitude.{Magnitude}
 use Rattle.units.specs.declared.Modulus.{Modulus}
-use Rattle.units.specs.Kinds.{grain, modulus}
+use Rattle.units.specs.Kinds.{grain, magnitude, modulus}
 use Rattle.units.specs.Signs.{isNeg, withSign}
-use Rattle.curve.specs.declared.Reading.{Reading}
 use Rattle.curve.specs.declared.Side.{Side}
-use Rattle.curve.specs.Curve.{Curve, limitAt}
-use Rattle.curve.specs.Sides.{curveOf, readingOf}
+use Rattle.curve.specs.Curve.{limitAt}
+use Rattle.curve.specs.Sides.{curveOf}
 use Rattle.flow.specs.Stored.{sideStored, isotropicStored, kinematicStored}
 use Rattle.response.specs.declared.Flowed.{Flowed}
 use Rattle.response.specs.declared.Response.the-variants.{Elastic}
 use Rattle.response.specs.declared.SideFlow.{SideFlow}
 use Rattle.response.specs.declared.SideFlow.the-variants.{Still, Moved}
-use Rattle.response.specs.Response as spec
-use Rattle.response.specs.Response.{branchOf, isotropicMoved, kinematicMoved, movedMeaning}
-use Rattle.response.specs.Parts.{SideAnswer, sideAnswer, sideMeaning, flowToward}
+use Rattle.response.specs.Response.{isotropicMoved, kinematicMoved, movedMeaning}
+use Rattle.response.specs.Parts.{flowAt, flowToward, sideFlow}
 
 pub sign-put-back : (s : ℤ) (n : ℕ) → withSign (isNeg s) n ≡ signed s (pos n)
 sign-put-back (pos m) n = refl
@@ -43,51 +42,53 @@ unfolding movedMeaning
 flow-meaning E variable trial true f = refl
 flow-meaning E variable trial false f = refl
 
--- Up to its limit a side stays; past it the abscissa grows by the excess, and the curve is read there.
-pub within-limit-still : (E : ℕ) (curve : Curve) (abscissa trial : ℕ) → trial ≤ limitAt E curve abscissa
-    → sideMeaning E abscissa trial Still ≡ sideAnswer E curve abscissa trial
-unfolding sideMeaning sideAnswer sideStored
-within-limit-still E curve abscissa trial h = rw (le-leb trial (limitAt E curve abscissa) h)
+-- Whether a side moved, and where to, as its answer tells.
+abbrev hasMoved : SideFlow → Bool
+hasMoved Still = false
+hasMoved (Moved a) = true
 
-pub past-limit-moves : (side : Side) (e : Modulus) (abscissa trial : ℕ) (moved : Magnitude) (reading : Reading)
-    → limitAt (e .0) (curveOf side) abscissa < trial
-    → moved .0 ≡ abscissa + (trial - limitAt (e .0) (curveOf side) abscissa) → reading ≡ readingOf side e moved
-    → sideMeaning (e .0) abscissa trial (Moved moved reading) ≡ sideAnswer (e .0) (curveOf side) abscissa trial
-unfolding sideMeaning sideAnswer sideStored readingOf
-past-limit-moves side e abscissa trial moved reading h is read = rw (lt-leb trial (limitAt (e .0) (curveOf side) abscissa) h, read, is)
+abbrev movedTo : SideFlow → Magnitude
+movedTo Still = magnitude 0
+movedTo (Moved a) = a
 
--- The isotropic law is its side on magnitudes, with the sign of the trial put back.
-abbrev signedMoved : ℤ → SideAnswer → spec.Moved
-signedMoved trial a =
-    record {
-      yielded = a .stored .yielded;
-      branch = branchOf (a .stored .yielded) trial;
-      stress = signed trial (pos (a .stored .magnitude));
-      variable = pos (a .stored .abscissa);
-      tangent = a .tangent;
-    }
+told-still : (t : Bool) (a : Magnitude) → pick t (Moved a) Still ≡ Still → t ≡ false
+told-still true a e = ap hasMoved e
+told-still false a e = refl
 
-module _ (E : ℕ) (curve : Curve) (abscissa trial : ℤ) where
-  abbrev Answers : SideFlow → Type 0
-  Answers flow = sideMeaning E (natAbs abscissa) (natAbs trial) flow ≡ sideAnswer E curve (natAbs abscissa) (natAbs trial)
+told-moved : (t : Bool) (a : Magnitude) {b : Magnitude} → pick t (Moved a) Still ≡ Moved b → (t ≡ true) × (a ≡ b)
+told-moved true a e = (refl, ap movedTo e)
+told-moved false a e = absurd (true≢false (sym (ap hasMoved e)))
 
-  isotropic-of-side : isotropicMoved E curve abscissa trial ≡ signedMoved trial (sideAnswer E curve (natAbs abscissa) (natAbs trial))
-  unfolding isotropicMoved isotropicStored sideAnswer
-  isotropic-of-side = refl
+pub side-still : (abscissa limit trial : ℕ) → sideFlow abscissa limit trial ≡ Still → trial ≤ limit
+side-still abscissa limit trial e = ltb-false limit trial (told-still (ltb limit trial) (magnitude (abscissa + (trial - limit))) e)
 
-  pub still-side-elastic : isNeg abscissa ≡ false → Answers Still → movedMeaning E abscissa trial Elastic ≡ isotropicMoved E curve abscissa trial
-  unfolding movedMeaning sideMeaning
-  still-side-elastic h e = rw (isotropic-of-side, ← e, own-sign trial, not-negative abscissa h)
+pub side-moved : (abscissa limit trial : ℕ) {a : Magnitude} → sideFlow abscissa limit trial ≡ Moved a
+    → (limit < trial) × (magnitude (abscissa + (trial - limit)) ≡ a)
+side-moved abscissa limit trial e =
+    let told = told-moved (ltb limit trial) (magnitude (abscissa + (trial - limit))) e in
+    (ltb-true limit trial (told .0), told .1)
 
-  abbrev signedFlow : Magnitude → Reading → Flowed
-  signedFlow a reading =
-      record { stress = grain (withSign (isNeg trial) (reading .limit .0)); variable = grain (pos (a .0)); tangent = reading .tangent }
+-- Within its limit the isotropic law leaves all as it was; past it the abscissa grows by the excess, and the stress lies at the limit there.
+module _ (side : Side) (e : Modulus) (abscissa trial : ℤ) where
+  abbrev limit : ℕ
+  limit = limitAt (e .0) (curveOf side) (natAbs abscissa)
 
-  pub moved-side-flows : (a : Magnitude) (reading : Reading) → Answers (Moved a reading)
-      → movedMeaning E abscissa trial (flowToward (isNeg trial) (signedFlow a reading)) ≡ isotropicMoved E curve abscissa trial
-  unfolding sideMeaning
-  moved-side-flows a reading e =
-      rw (isotropic-of-side, ← e, flow-meaning E abscissa trial (isNeg trial) (signedFlow a reading), sign-put-back trial (reading .limit .0))
+  pub within-limit-elastic : isNeg abscissa ≡ false → natAbs trial ≤ limit
+      → movedMeaning (e .0) abscissa trial Elastic ≡ isotropicMoved (e .0) (curveOf side) abscissa trial
+  unfolding movedMeaning isotropicMoved isotropicStored sideStored
+  within-limit-elastic h within = rw (le-leb (natAbs trial) limit within, own-sign trial, not-negative abscissa h)
+
+  pub past-limit-flows : limit < natAbs trial
+      → movedMeaning (e .0) abscissa trial (flowToward (isNeg trial) (flowAt side e (magnitude (natAbs abscissa + (natAbs trial - limit))) (isNeg trial)))
+      ≡ isotropicMoved (e .0) (curveOf side) abscissa trial
+  unfolding isotropicMoved isotropicStored sideStored
+  past-limit-flows past =
+      let moved = magnitude (natAbs abscissa + (natAbs trial - limit)) in
+      rw (
+        flow-meaning (e .0) abscissa trial (isNeg trial) (flowAt side e moved (isNeg trial)),
+        sign-put-back trial (limitAt (e .0) (curveOf side) (moved .0)),
+        lt-leb (natAbs trial) limit past,
+      )
 
 -- Within its radius the kinematic law leaves all as it was; past it the centre moves toward the trial.
 module _ (E tangent yield : ℕ) (centre trial : ℤ) where

@@ -1,5 +1,6 @@
 pub mod Branches
 pub mod Places
+pub mod LimitLaws
 pub mod SoundSides
 pub mod Passing
 pub mod MovedTangent

@@ -1,15 +1,18 @@
 -- The variable that moved stands in its place: a law's answer on one variable is its answer for the state.
 use Prim.Native.Nat.{ℕ}
-use mathlib.Core.Path.{_≡_, sym, ap}
+use mathlib.Core.Path.{_≡_, refl, sym, ap}
+use mathlib.Core.List.{[], _∷_}
 use mathlib.Core.Bool.{Bool, true, false}
 use mathlib.Core.Logic.{_⊎_, inl, inr}
 use native.Mathlib.Omega.{arith}
 use lib.IntN.{ℤ}
+use denote.Enum.Declared.{tagOf}
+use types.Run.{OneOf}
 use Rattle.refusals.specs.Table.{pick}
 use Rattle.law.specs.declared.Law.{Law}
 use Rattle.law.specs.declared.Law.the-variants.{IsotropicLine, IsotropicCurve, Kinematic, Asymmetric}
+use Rattle.law.proofs.Law.{the-type}
 use Rattle.units.specs.Signs.{isNeg}
-use Rattle.curve.specs.declared.Side.{Side}
 use Rattle.curve.specs.Curve.{Curve}
 use Rattle.curve.specs.Sides.{curveOf}
 use Rattle.sheet.specs.declared.Sheet.{Sheet}
@@ -17,10 +20,20 @@ use Rattle.sheet.specs.Sound.{tangentOf}
 use Rattle.response.specs.declared.Response.{Response}
 use Rattle.response.specs.declared.Response.the-variants.{Elastic, Tension, Compression}
 use Rattle.response.specs.Response.{branchOf, Moved, isotropicMoved, kinematicMoved, inFirst, inSecond, asymmetricOutcome, outcomeUnder, outcomeOf, movedMeaning, responseMeaning, AbscissaRight, VariablesRight}
+use Rattle.response.specs.Parts.{sideBy}
 
 -- Law 0 or 1.
 abbrev pub IsIsotropic : Law → Type 0
 IsIsotropic law = (law ≡ IsotropicLine) ⊎ (law ≡ IsotropicCurve)
+
+-- The arm of a match that takes both.
+pub isotropic-arm : (law : Law) → OneOf (0 ∷ 1 ∷ []) (tagOf the-type law) → IsIsotropic law
+isotropic-arm IsotropicLine is = inl refl
+isotropic-arm IsotropicCurve is = inr refl
+isotropic-arm Kinematic (inl is) = absurd (omega arith)
+isotropic-arm Kinematic (inr is) = absurd (omega arith)
+isotropic-arm Asymmetric (inl is) = absurd (omega arith)
+isotropic-arm Asymmetric (inr is) = absurd (omega arith)
 
 pub first-is-abscissa : {law : Law} (first second : ℤ) → IsIsotropic law → VariablesRight law first second → AbscissaRight first
 first-is-abscissa first second (inl is) v = rw is at v
@@ -56,14 +69,11 @@ module _ (h : Sheet) (first second trial : ℤ) where
   kinematic-response r is e = rw is (ap (λ (m : Moved). inFirst m second) e)
 
   -- Law 3 answers on the side of the trial's sign.
-  abbrev sideOf : Bool → Side
-  sideOf negative = pick negative (h .compression) (h .tension)
-
   abbrev variableOf : Bool → ℤ
   variableOf negative = pick negative second first
 
   pub asymmetric-response : (r : Response) (negative : Bool) → h .law ≡ Asymmetric → isNeg trial ≡ negative
-      → movedMeaning E (variableOf negative) trial r ≡ isotropicMoved E (curveOf (sideOf negative)) (variableOf negative) trial
+      → movedMeaning E (variableOf negative) trial r ≡ isotropicMoved E (curveOf (sideBy negative h)) (variableOf negative) trial
       → responseMeaning h first second trial r ≡ outcomeOf h first second trial
   unfolding responseMeaning outcomeUnder asymmetricOutcome movedMeaning
   asymmetric-response Elastic true is s e = rw (is, s) (ap (inSecond first) e)

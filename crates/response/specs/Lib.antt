@@ -1,3 +1,4 @@
 pub mod Response
+pub mod Limits
 pub mod Parts
 pub mod Solved

@@ -1,37 +1,40 @@
--- What one side answers on magnitudes, for laws 0 and 1 and for both sides of law 3. Definitions only; nothing is assumed.
-use Prim.Native.Nat.{ℕ, _≤_}
+-- What the parts of a law's answer answer, for laws 0 and 1 and for both sides of law 3. Definitions only; nothing is assumed.
+use Prim.Native.Nat.{ℕ, _+_, _-_}
 use mathlib.Core.Bool.{Bool, true, false}
+use lib.IntN.{pos}
+use lib.Dec.{ltb}
 use Rattle.refusals.specs.Table.{pick}
-use Rattle.curve.specs.Curve.{Curve, limitAt}
+use Rattle.units.specs.declared.Magnitude.{Magnitude}
+use Rattle.units.specs.declared.Modulus.{Modulus}
+use Rattle.units.specs.Kinds.{magnitude, modulus, grain}
+use Rattle.units.specs.Signs.{withSign}
+use Rattle.curve.specs.declared.Side.{Side}
+use Rattle.curve.specs.Curve.{limitAt}
 use Rattle.curve.specs.Tangent.{tangentAt}
-use Rattle.flow.specs.Stored.{SideStored, sideStored}
+use Rattle.curve.specs.Sides.{curveOf}
+use Rattle.sheet.specs.declared.Sheet.{Sheet}
 use Rattle.response.specs.declared.Flowed.{Flowed}
 use Rattle.response.specs.declared.Response.{Response}
 use Rattle.response.specs.declared.Response.the-variants.{Tension, Compression}
 use Rattle.response.specs.declared.SideFlow.{SideFlow}
 use Rattle.response.specs.declared.SideFlow.the-variants.{Still, Moved}
 
--- The magnitude and the abscissa that a side stores, and the tangent.
-pub record SideAnswer : Type 0 where
-  pub stored : SideStored
-  pub tangent : ℕ
+-- The compression side of a sheet, or its tension side.
+abbrev pub sideBy : (compression : Bool) → Sheet → Side
+sideBy compression h = pick compression (h .compression) (h .tension)
 
-unfoldable pub sideAnswer : (E : ℕ) → Curve → (abscissa trial : ℕ) → SideAnswer
-sideAnswer E curve abscissa trial =
-    let stored = sideStored (limitAt E curve) trial abscissa in
-    record { stored = stored; tangent = pick (stored .yielded) (tangentAt E curve (stored .abscissa)) E }
+-- Up to the limit a side stays; past it the abscissa grows by the excess.
+abbrev pub sideFlow : (abscissa limit trial : ℕ) → SideFlow
+sideFlow abscissa limit trial = pick (ltb limit trial) (Moved (magnitude (abscissa + (trial - limit)))) Still
 
--- What each case of the side's answer stands for.
-unfoldable pub sideMeaning : (E abscissa trial : ℕ) → SideFlow → SideAnswer
-sideMeaning E abscissa trial Still =
-    record { stored = record { yielded = false; magnitude = trial; abscissa = abscissa }; tangent = E }
-sideMeaning E abscissa trial (Moved a reading) =
-    record { stored = record { yielded = true; magnitude = reading .limit .0; abscissa = a .0 }; tangent = reading .tangent .0 }
-
--- A side that moved has an abscissa and a limit of at most so much.
-abbrev pub MovedMost : ℕ → SideFlow → Type 0
-MovedMost most Still = Unit {0}
-MovedMost most (Moved a reading) = (a .0 ≤ most) × (reading .limit .0 ≤ most)
+-- What a side leaves that has moved to an abscissa.
+abbrev pub flowAt : Side → Modulus → Magnitude → (negative : Bool) → Flowed
+flowAt side e moved negative =
+    record {
+      stress = grain (withSign negative (limitAt (e .0) (curveOf side) (moved .0)));
+      variable = grain (pos (moved .0));
+      tangent = modulus (tangentAt (e .0) (curveOf side) (moved .0));
+    }
 
 -- A flow in one of its two directions.
 abbrev pub flowToward : (negative : Bool) → Flowed → Response

@@ -1,5 +1,6 @@
 // The law's answer to a trial stress, by value. Magnitude and sign are taken apart, a side is read on magnitudes, and the sign is put back.
-use curve::Reading;
+mod reached; // reached.rt: the yield limits that a rod has reached
+
 use curve::Side;
 use law::Law;
 use sheet::Sheet;
@@ -7,14 +8,18 @@ use units::Grain;
 use units::Magnitude;
 use units::Modulus;
 ghost use mathlib.Core.Path.{_≡_};
-ghost use Prim.Native.Nat.{_+_, _≤_, _<_, _^_};
+ghost use Prim.Native.Nat.{_+_, _-_, _≤_, _<_, _^_};
 ghost use lib.Dec.{ltb};
 ghost use lib.IntN.{natAbs};
 ghost use Rattle.ranges.specs.Ranges.{mostModulus, mostStress};
+ghost use Rattle.refusals.specs.Table.{pick};
+ghost use Rattle.units.specs.Kinds.{magnitude};
+ghost use Rattle.curve.specs.Curve.{limitAt};
 ghost use Rattle.curve.specs.Sides.{Readable, curveOf};
 ghost use Rattle.sheet.specs.Sound.{SideSound, tangentOf};
 ghost use Rattle.response.specs.Response.{Answerable, AbscissaRight, isotropicMoved, kinematicMoved, mostTrial, movedMeaning, outcomeOf, responseMeaning};
-ghost use Rattle.response.specs.Parts.{MovedMost, flowToward, sideAnswer, sideMeaning};
+ghost use Rattle.response.specs.Limits.{limitsOf};
+ghost use Rattle.response.specs.Parts.{flowAt, flowToward, sideBy, sideFlow};
 
 // What a flow leaves: the stress, the variable that moved (an abscissa or the kinematic centre), and the tangent modulus there.
 pub struct Flowed {
@@ -30,10 +35,17 @@ pub enum Response {
     Compression(Flowed),
 }
 
-// One side on magnitudes: where it moved, its new abscissa and what the curve says there.
+// The yield limits at the abscissas of a rod, rounded down. They are found once and kept up from pair to pair; one that the law doesn't have
+// is 0.
+pub struct Limits {
+    pub first: Magnitude,
+    pub second: Magnitude,
+}
+
+// One side on magnitudes: whether it moved, and its new abscissa.
 enum SideFlow {
     Still,
-    Moved(Magnitude, Reading),
+    Moved(Magnitude),
 }
 
 // The trial passes a limit; equality doesn't.
@@ -44,20 +56,14 @@ fn passes(trial: Magnitude, limit: Magnitude) -> bool
 }
 
 // A side flows by the excess of the trial over the yield limit.
-fn side_flow(side: Side, modulus: Modulus, abscissa: Magnitude, trial: Magnitude) -> SideFlow
-    requires { ⌜ Readable side modulus ⌝ }
-    requires room { ⌜ abscissa .0 + trial .0 < 2 ^ 63 ⌝ }
-    ensures { λ r. ⌜ sideMeaning (modulus .0) (abscissa .0) (trial .0) r ≡ sideAnswer (modulus .0) (curveOf side) (abscissa .0) (trial .0) ⌝ }
-    ensures most { λ r. ⌜ MovedMost (abscissa .0 + trial .0) r ⌝ }
+fn side_flow(abscissa: Magnitude, limit: Magnitude, trial: Magnitude) -> SideFlow
+    requires { ⌜ abscissa .0 + trial .0 < 2 ^ 63 ⌝ }
+    ensures { λ r. ⌜ r ≡ sideFlow (abscissa .0) (limit .0) (trial .0) ⌝ }
 {
-    let before = side.at(modulus, abscissa);
-    let limit = before.limit;
     if !passes(trial, limit) {
         return SideFlow::Still;
     }
-    let moved = abscissa.plus(trial.minus(limit));
-    let after = side.at(modulus, moved);
-    SideFlow::Moved(moved, after)
+    SideFlow::Moved(abscissa.plus(trial.minus(limit)))
 }
 
 // A flow in one of its two directions.
@@ -70,21 +76,12 @@ fn toward(negative: bool, flowed: Flowed) -> Response
     Response::Tension(flowed)
 }
 
-// The isotropic law on one side, with the sign of the trial put back.
-fn isotropic(side: Side, modulus: Modulus, abscissa: Grain, trial: Grain) -> Response
-    requires { ⌜ Readable side modulus ⌝ }
-    requires ranges { ⌜ AbscissaRight (abscissa .0) × (natAbs (trial .0) ≤ mostTrial) ⌝ }
-    ensures { λ r. ⌜ movedMeaning (modulus .0) (abscissa .0) (trial .0) r ≡ isotropicMoved (modulus .0) (curveOf side) (abscissa .0) (trial .0) ⌝ }
+// What a side leaves that has moved to an abscissa: the stress lies at the limit there.
+fn flow(side: Side, modulus: Modulus, moved: Magnitude, negative: bool) -> Response
+    requires { ⌜ Readable side modulus × (moved .0 < 2 ^ 63) ⌝ }
+    ensures { λ r. ⌜ r ≡ flowToward negative (flowAt side modulus moved negative) ⌝ }
 {
-    let negative = trial.negative();
-    let SideFlow::Moved(moved, reading) = side_flow(
-        side,
-        modulus,
-        abscissa.magnitude(),
-        trial.magnitude(),
-    ) else {
-        return Response::Elastic;
-    };
+    let reading = side.at(modulus, moved);
     let limit = reading.limit;
     let tangent = reading.tangent;
     toward(
@@ -95,6 +92,32 @@ fn isotropic(side: Side, modulus: Modulus, abscissa: Grain, trial: Grain) -> Res
             tangent: tangent,
         },
     )
+}
+
+// The isotropic law on one side of the sheet, with the sign of the trial put back.
+fn isotropic(
+    sheet: Sheet,
+    compression: bool,
+    abscissa: Grain,
+    limit: Magnitude,
+    trial: Grain,
+) -> Response
+    requires { ⌜ Readable (sideBy compression sheet) (sheet .modulus) ⌝ }
+    requires ranges { ⌜ AbscissaRight (abscissa .0) × (natAbs (trial .0) ≤ mostTrial) ⌝ }
+    requires limit { ⌜ limit .0 ≡ limitAt (sheet .modulus .0) (curveOf (sideBy compression sheet)) (natAbs (abscissa .0)) ⌝ }
+    ensures { λ r. ⌜ movedMeaning (sheet .modulus .0) (abscissa .0) (trial .0) r ≡ isotropicMoved (sheet .modulus .0) (curveOf (sideBy compression sheet)) (abscissa .0) (trial .0) ⌝ }
+{
+    let SideFlow::Moved(moved) = side_flow(abscissa.magnitude(), limit, trial.magnitude()) else {
+        return Response::Elastic;
+    };
+    let modulus = sheet.modulus;
+    let negative = trial.negative();
+    if compression {
+        let side = sheet.compression;
+        return flow(side, modulus, moved, negative);
+    }
+    let side = sheet.tension;
+    flow(side, modulus, moved, negative)
 }
 
 // The kinematic law: the centre moves toward the trial, and the stress lies one radius beyond it.
@@ -126,30 +149,36 @@ fn kinematic(side: Side, modulus: Modulus, centre: Grain, trial: Grain) -> Respo
 }
 
 // The asymmetric law: the side of the trial's sign, as in the isotropic law.
-fn asymmetric(sheet: Sheet, first: Grain, second: Grain, trial: Grain) -> Response
+fn asymmetric(sheet: Sheet, limits: Limits, first: Grain, second: Grain, trial: Grain) -> Response
     requires { ⌜ Answerable sheet (first .0) (second .0) (trial .0) × (sheet .law ≡ Law.Asymmetric) ⌝ }
+    requires limits { ⌜ limits ≡ limitsOf sheet (first .0) (second .0) ⌝ }
     ensures { λ r. ⌜ responseMeaning sheet (first .0) (second .0) (trial .0) r ≡ outcomeOf sheet (first .0) (second .0) (trial .0) ⌝ }
 {
-    let modulus = sheet.modulus;
     if trial.negative() {
-        let compression = sheet.compression;
-        return isotropic(compression, modulus, second, trial);
+        let limit = limits.second;
+        return isotropic(sheet, true, second, limit, trial);
     }
-    let tension = sheet.tension;
-    isotropic(tension, modulus, first, trial)
+    let limit = limits.first;
+    isotropic(sheet, false, first, limit, trial)
 }
 
-// The answer of the sheet's law.
-pub fn respond(sheet: Sheet, first: Grain, second: Grain, trial: Grain) -> Response
+// The answer of the sheet's law, from the limits at the two variables.
+pub fn respond(sheet: Sheet, limits: Limits, first: Grain, second: Grain, trial: Grain) -> Response
     requires { ⌜ Answerable sheet (first .0) (second .0) (trial .0) ⌝ }
+    requires limits { ⌜ limits ≡ limitsOf sheet (first .0) (second .0) ⌝ }
     ensures { λ r. ⌜ responseMeaning sheet (first .0) (second .0) (trial .0) r ≡ outcomeOf sheet (first .0) (second .0) (trial .0) ⌝ }
 {
     let law = sheet.law;
-    let modulus = sheet.modulus;
-    let tension = sheet.tension;
     match law {
-        Law::IsotropicLine | Law::IsotropicCurve => isotropic(tension, modulus, first, trial),
-        Law::Kinematic => kinematic(tension, modulus, first, trial),
-        Law::Asymmetric => asymmetric(sheet, first, second, trial),
+        Law::IsotropicLine | Law::IsotropicCurve => {
+            let limit = limits.first;
+            isotropic(sheet, false, first, limit, trial)
+        }
+        Law::Kinematic => {
+            let modulus = sheet.modulus;
+            let tension = sheet.tension;
+            kinematic(tension, modulus, first, trial)
+        }
+        Law::Asymmetric => asymmetric(sheet, limits, first, second, trial),
     }
 }

@@ -1,48 +1,39 @@
 // A state against a sheet: whether the rod can be one of that sheet.
 use crate::Rod;
-use curve::Side;
 use law::Law;
+use response::Limits;
 use sheet::Sheet;
 use units::Grain;
 use units::Magnitude;
-use units::Modulus;
 ghost use mathlib.Core.Path.{_≡_};
 ghost use mathlib.Core.Bool.{true};
-ghost use Prim.Native.Nat.{_≤_};
-ghost use Rattle.ranges.specs.Ranges.{mostModulus};
-ghost use Rattle.units.specs.Signs.{withSign};
-ghost use Rattle.sheet.specs.Sound.{SheetSound, SideSound};
+ghost use Prim.Native.Nat.{_<_};
+ghost use lib.Dec.{leb};
+ghost use lib.IntN.{pos};
+ghost use lib.Signed.{leZ};
+ghost use Rattle.refusals.specs.Table.{pick};
+ghost use Rattle.sheet.specs.Sound.{SheetSound};
+ghost use Rattle.response.specs.Limits.{limitOn, limitsOf, limitsUnder};
 ghost use Rattle.rod.specs.States.{inRange};
-ghost use Rattle.rod.specs.Limits.{withinLimit};
-ghost use Rattle.rod.specs.Against.{asymmetricBelongs, belongs, isotropicBelongs, kinematicBelongs, noSecond, pastYield};
+ghost use Rattle.rod.specs.Against.{asymmetricBelongs, belongs, isotropicBelongs, kinematicBelongs, noSecond};
 
-// Whether a stress doesn't pass a side's yield limit. A stress away from the side, of the other sign, never does.
-pub fn within_limit(
-    side: Side,
-    modulus: Modulus,
-    abscissa: Magnitude,
-    away: bool,
-    size: Magnitude,
-) -> bool
-    requires { ⌜ (1 ≤ modulus .0) × (modulus .0 ≤ mostModulus) × SideSound (modulus .0) side ⌝ }
-    ensures { λ r. ⌜ r ≡ withinLimit (modulus .0) side (abscissa .0) (withSign away (size .0)) ⌝ }
+// Whether a stress doesn't pass a yield limit. A stress away from the limit's side, of the other sign, never does.
+pub fn within_limit(limit: Magnitude, away: bool, size: Magnitude) -> bool
+    ensures { λ r. ⌜ r ≡ pick away true (leb (size .0) (limit .0)) ⌝ }
 {
     if away {
         return true;
     }
-    let reading = side.at(modulus, abscissa);
-    let limit = reading.limit;
     size.at_most(limit)
 }
 
-// Whether an abscissa isn't below the side's yield.
-fn past_yield(side: Side, abscissa: Grain) -> bool
-    ensures { λ r. ⌜ r ≡ pastYield side (abscissa .0) ⌝ }
+// Whether an abscissa isn't below its yield.
+fn past_yield(yield_stress: Magnitude, abscissa: Grain) -> bool
+    ensures { λ r. ⌜ r ≡ leZ (pos («yield_stress» .0)) (abscissa .0) ⌝ }
 {
     if abscissa.negative() {
         return false;
     }
-    let yield_stress = side.yield_stress;
     yield_stress.at_most(abscissa.magnitude())
 }
 
@@ -53,18 +44,18 @@ fn no_second(rod: Rod) -> bool
     second.magnitude().at_most(Magnitude(0))
 }
 
-fn isotropic(sheet: Sheet, rod: Rod) -> bool
-    requires { ⌜ SheetSound sheet ⌝ }
+fn isotropic(sheet: Sheet, rod: Rod, limit: Magnitude) -> bool
+    requires { ⌜ 0 < sheet .modulus .0 ⌝ }
+    requires limit { ⌜ limit ≡ limitOn (sheet .modulus .0) (sheet .tension) (rod .first .0) ⌝ }
     ensures { λ r. ⌜ r ≡ isotropicBelongs sheet rod ⌝ }
 {
-    let side = sheet.tension;
-    let modulus = sheet.modulus;
+    let yield_stress = sheet.tension.yield_stress;
     let first = rod.first;
     let stress = rod.stress;
-    if !past_yield(side, first) {
+    if !past_yield(yield_stress, first) {
         return false;
     }
-    if !within_limit(side, modulus, first.magnitude(), false, stress.magnitude()) {
+    if !within_limit(limit, false, stress.magnitude()) {
         return false;
     }
     no_second(rod)
@@ -75,8 +66,7 @@ fn kinematic(sheet: Sheet, rod: Rod) -> bool
     requires centre { ⌜ rod .law ≡ Law.Kinematic ⌝ }
     ensures { λ r. ⌜ r ≡ kinematicBelongs sheet rod ⌝ }
 {
-    let side = sheet.tension;
-    let radius = side.yield_stress;
+    let radius = sheet.tension.yield_stress;
     let stress = rod.stress;
     let centre = rod.first;
     if !stress.minus(centre).magnitude().at_most(radius) {
@@ -85,44 +75,36 @@ fn kinematic(sheet: Sheet, rod: Rod) -> bool
     no_second(rod)
 }
 
-fn asymmetric(sheet: Sheet, rod: Rod) -> bool
-    requires { ⌜ SheetSound sheet × (sheet .law ≡ Law.Asymmetric) ⌝ }
+fn asymmetric(sheet: Sheet, rod: Rod, limits: Limits) -> bool
+    requires { ⌜ 0 < sheet .modulus .0 ⌝ }
+    requires limits { ⌜ limits ≡ limitsUnder Law.Asymmetric sheet (rod .first .0) (rod .second .0) ⌝ }
     ensures { λ r. ⌜ r ≡ asymmetricBelongs sheet rod ⌝ }
 {
-    let tension = sheet.tension;
-    let compression = sheet.compression;
-    let modulus = sheet.modulus;
+    let tension_yield = sheet.tension.yield_stress;
+    let compression_yield = sheet.compression.yield_stress;
     let first = rod.first;
     let second = rod.second;
     let stress = rod.stress;
-    if !past_yield(tension, first) {
+    if !past_yield(tension_yield, first) {
         return false;
     }
-    if !past_yield(compression, second) {
+    if !past_yield(compression_yield, second) {
         return false;
     }
     let negative = stress.negative();
-    if !within_limit(
-        tension,
-        modulus,
-        first.magnitude(),
-        negative,
-        stress.magnitude(),
-    ) {
+    let size = stress.magnitude();
+    let tension = limits.first;
+    if !within_limit(tension, negative, size) {
         return false;
     }
-    within_limit(
-        compression,
-        modulus,
-        second.magnitude(),
-        !negative,
-        stress.magnitude(),
-    )
+    let compression = limits.second;
+    within_limit(compression, !negative, size)
 }
 
-// Whether the rod can be one of the sheet.
-pub fn belongs(sheet: Sheet, rod: Rod) -> bool
+// Whether the rod can be one of the sheet, from the limits at its variables.
+pub fn belongs(sheet: Sheet, rod: Rod, limits: Limits) -> bool
     requires { ⌜ SheetSound sheet × (inRange rod ≡ true) ⌝ }
+    requires limits { ⌜ limits ≡ limitsOf sheet (rod .first .0) (rod .second .0) ⌝ }
     ensures { λ r. ⌜ r ≡ belongs sheet rod ⌝ }
 {
     let own = rod.law;
@@ -130,10 +112,11 @@ pub fn belongs(sheet: Sheet, rod: Rod) -> bool
     if own.number() != law.number() {
         return false;
     }
+    let limit = limits.first;
     match law {
-        Law::IsotropicLine => isotropic(sheet, rod),
-        Law::IsotropicCurve => isotropic(sheet, rod),
+        Law::IsotropicLine => isotropic(sheet, rod, limit),
+        Law::IsotropicCurve => isotropic(sheet, rod, limit),
         Law::Kinematic => kinematic(sheet, rod),
-        Law::Asymmetric => asymmetric(sheet, rod),
+        Law::Asymmetric => asymmetric(sheet, rod, limits),
     }
 }

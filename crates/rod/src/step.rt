@@ -5,6 +5,7 @@ use crate::variables;
 use law::Law;
 use pair::Pair;
 use response::Flowed;
+use response::Limits;
 use response::Response;
 use row::Row;
 use sheet::Sheet;
@@ -18,8 +19,8 @@ ghost use lib.IntN.{natAbs};
 ghost use Rattle.refusals.specs.Table.{firstOf};
 ghost use Rattle.ranges.specs.Ranges.{mostCount, mostStress};
 ghost use Rattle.units.specs.Kinds.{grain};
-ghost use Rattle.sheet.specs.Sound.{SheetSound};
 ghost use Rattle.response.specs.Response.{mostTrial, responseMeaning};
+ghost use Rattle.response.specs.Limits.{limitsOf};
 ghost use Rattle.rod.specs.Steps.{advanceBy, advanceOf, bothPassedBy, leavesRange, settledOf, stepMeaning, stepRefusals, trialOf};
 ghost use Rattle.rod.specs.Steady.{Accepted, PairAccepted};
 
@@ -94,36 +95,23 @@ fn yielded(flowed: Flowed, first: Grain, second: Grain) -> Settled
 }
 
 // Whether the trial passes both limits of law 3.
-fn both_passed(rod: Rod, sheet: Sheet, trial: Grain) -> bool
-    requires { ⌜ SheetSound sheet ⌝ }
+fn both_passed(rod: Rod, sheet: Sheet, limits: Limits, trial: Grain) -> bool
+    requires { ⌜ 0 < sheet .modulus .0 ⌝ }
+    requires limits { ⌜ limits ≡ limitsOf sheet (rod .first .0) (rod .second .0) ⌝ }
     ensures { λ r. ⌜ r ≡ bothPassedBy (sheet .law) sheet rod (trial .0) ⌝ }
 {
     let law = sheet.law;
     if !variables::has_second(law) {
         return false;
     }
-    let tension = sheet.tension;
-    let compression = sheet.compression;
-    let modulus = sheet.modulus;
-    let first = rod.first;
-    let second = rod.second;
     let negative = trial.negative();
-    if against::within_limit(
-        tension,
-        modulus,
-        first.magnitude(),
-        negative,
-        trial.magnitude(),
-    ) {
+    let size = trial.magnitude();
+    let tension = limits.first;
+    if against::within_limit(tension, negative, size) {
         return false;
     }
-    !against::within_limit(
-        compression,
-        modulus,
-        second.magnitude(),
-        !negative,
-        trial.magnitude(),
-    )
+    let compression = limits.second;
+    !against::within_limit(compression, !negative, size)
 }
 
 // Whether a stress, a variable or the count of pairs would leave its range.
@@ -208,9 +196,10 @@ impl Rod {
         }
     }
 
-    // Carries the rod over one pair, or refuses it: 9, 11, 10 in that order.
-    pub fn step(self, sheet: Sheet, pair: Pair) -> Stepped
+    // Carries the rod over one pair, or refuses it: 9, 11, 10 in that order. The limits are those at its variables.
+    pub fn step(self, sheet: Sheet, limits: Limits, pair: Pair) -> Stepped
         requires { ⌜ Accepted sheet self × PairAccepted pair ⌝ }
+        requires limits { ⌜ limits ≡ limitsOf sheet (self .first .0) (self .second .0) ⌝ }
         ensures { λ r. ⌜ stepMeaning r ≡ firstOf (stepRefusals sheet self pair) (advanceOf sheet self pair) ⌝ }
     {
         let strain = self.strain.plus(pair.change);
@@ -220,12 +209,12 @@ impl Rod {
             return Stepped::StrainLeaves;
         }
         let trial = self.trial(sheet, pair);
-        if both_passed(self, sheet, trial) {
+        if both_passed(self, sheet, limits, trial) {
             return Stepped::BothFlow;
         }
         let first = self.first;
         let second = self.second;
-        let response = response::respond(sheet, first, second, trial);
+        let response = response::respond(sheet, limits, first, second, trial);
         let settled = settle(self, sheet, trial, response);
         if leaves_range(self, settled) {
             return Stepped::OutOfRange;

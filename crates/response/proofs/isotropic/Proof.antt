@@ -1,59 +1,81 @@
-use Prim.Native.Nat.{_+_, _^_, _<_}
-use mathlib.Core.Path.{_≡_}
+use Prim.Native.Nat.{_+_, _-_, _<_, _^_}
+use mathlib.Core.Path.{_≡_, sym, _∙_}
+use mathlib.Core.Bool.{Bool, true, false}
 use native.Mathlib.Omega.{arith}
 use lib.IntN.{natAbs}
 use borrow.Author.Needs.{needs}
+use Rattle.units.specs.Kinds.{magnitude}
+use Rattle.curve.specs.Curve.{limitAt}
 use Rattle.curve.specs.Sides.{curveOf}
-use Rattle.response.specs.Parts.{MovedMost, sideAnswer, sideMeaning}
-use Rattle.response.proofs.Branches.{still-side-elastic, moved-side-flows}
+use Rattle.response.specs.Response.{isotropicMoved, movedMeaning}
+use Rattle.response.specs.Parts.{flowAt, flowToward, sideBy, sideFlow}
+use Rattle.response.proofs.Branches.{side-still, side-moved, within-limit-elastic, past-limit-flows}
 use Rattle.response.proofs.isotropic.Statement.{statement}
 use Rattle.response.proofs.isotropic.Tie as tie
 
 side-flow-requires : tie.Need-side-flow-requires
 side-flow-requires c κs =
-    let s = c .before .before .before in
-    (s .pre .0, rw (c .magnitude2 .ensures, c .before .magnitude .ensures) (omega (arith, s .pre .1)))
+    let s = c .before .before in
+    rw (c .magnitude2 .ensures, c .before .magnitude .ensures) (omega (arith, s .pre .1 .0))
 
 -- What the side answers of the two magnitudes.
-side-answers : (c : tie.After-side-flow) → let a = c .before .before .before .before .args in
-    (sideMeaning (a .modulus .0) (natAbs (a .abscissa .0)) (natAbs (a .trial .0)) (c .side-flow .result)
-    ≡ sideAnswer (a .modulus .0) (curveOf (a .side)) (natAbs (a .abscissa .0)) (natAbs (a .trial .0)))
-    × MovedMost (natAbs (a .abscissa .0) + natAbs (a .trial .0)) (c .side-flow .result)
-side-answers c = rw (c .before .magnitude2 .ensures, c .before .before .magnitude .ensures) at (c .side-flow .ensures)
+side-answers : (c : tie.After-side-flow) → let a = c .before .before .before .args in
+    c .side-flow .result
+    ≡ sideFlow (natAbs (a .abscissa .0)) (limitAt (a .sheet .modulus .0) (curveOf (sideBy (a .compression) (a .sheet))) (natAbs (a .abscissa .0))) (natAbs (a .trial .0))
+side-answers c = rw (c .before .before .before .pre .1 .1, c .before .magnitude2 .ensures, c .before .before .magnitude .ensures) at (c .side-flow .ensures)
 
 returns : tie.Need-returns
 returns c =
     let flow = c .before .before in
-    let s = flow .before .before .before .before in
+    let s = flow .before .before .before in
     let a = s .args in
-    still-side-elastic (a .modulus .0) (curveOf (a .side)) (a .abscissa .0) (a .trial .0) (s .pre .1 .0 .not-negative)
-    (rw (c .enum-told .given .1) at (side-answers flow .0))
+    within-limit-elastic (sideBy (a .compression) (a .sheet)) (a .sheet .modulus) (a .abscissa .0) (a .trial .0) (s .pre .1 .0 .0 .not-negative)
+    (side-still _ _ _ (sym (side-answers flow) ∙ c .enum-told .given .1))
 
-moved-most : (c : tie.After-moved) → (c .moved .given .0 .0 .0 < 2 ^ 63) × (c .moved .given .0 .1 .0 .limit .0 < 2 ^ 63)
-moved-most c =
-    let flow = c .before .before in
-    let s = flow .before .before .before .before in
-    let most = rw (c .moved .given .1) at (side-answers flow .1) in
-    (omega (arith, most .0, s .pre .1), omega (arith, most .1, s .pre .1))
+-- The side moved: by how much, and that it fits.
+moved : (c : tie.After-known-told) → let flow = c .before .before .before in
+    let a = flow .before .before .before .args in
+    let limit = limitAt (a .sheet .modulus .0) (curveOf (sideBy (a .compression) (a .sheet))) (natAbs (a .abscissa .0)) in
+    (limit < natAbs (a .trial .0)) × (magnitude (natAbs (a .abscissa .0) + (natAbs (a .trial .0) - limit)) ≡ c .before .moved .given .0 .0)
+moved c = let flow = c .before .before .before in side-moved _ _ _ (sym (side-answers flow) ∙ c .before .moved .given .1)
 
-of-requires : tie.Need-of-requires
-of-requires c κs = moved-most (c .before .before .before) .1
+fits : (c : tie.After-known-told) → c .before .moved .given .0 .0 .0 < 2 ^ 63
+fits c =
+    let s = c .before .before .before .before .before .before in
+    rw (sym (moved c .1)) (omega (arith, s .pre .1 .0))
 
-of-requires-2 : tie.Need-of-requires-2
-of-requires-2 c κs = moved-most (c .before .before .before .before) .0
+-- The flow of the side.
+flows : (c : tie.After-negative) (compression : Bool) → let told = c .before .before in
+    let a = told .before .before .before .before .before .before .args in
+    a .compression ≡ compression
+    → movedMeaning (a .sheet .modulus .0) (a .abscissa .0) (a .trial .0)
+    (flowToward (c .negative .result) (flowAt (sideBy compression (a .sheet)) (a .sheet .modulus) (told .before .moved .given .0 .0) (c .negative .result)))
+    ≡ isotropicMoved (a .sheet .modulus .0) (curveOf (sideBy (a .compression) (a .sheet))) (a .abscissa .0) (a .trial .0)
+flows c compression is =
+    let told = c .before .before in
+    let a = told .before .before .before .before .before .before .args in
+    rw (c .negative .ensures, sym (moved told .1), sym is)
+    (past-limit-flows (sideBy (a .compression) (a .sheet)) (a .sheet .modulus) (a .abscissa .0) (a .trial .0) (moved told .0))
+
+flow-requires : tie.Need-flow-requires
+flow-requires c κs =
+    let test = c .before in
+    let told = test .before .before .before in
+    let s = told .before .before .before .before .before .before in
+    (rw (test .if1 .taken) at (s .pre .0), fits told)
 
 returns-2 : tie.Need-returns-2
-returns-2 c =
-    let of2 = c .before in
-    let of = of2 .before in
-    let moved = of .before .before .before .before in
-    let flow = moved .before .before in
-    let negative = flow .before .before .before in
-    let a = negative .before .args in
-    let given = moved .moved .given in
-    rw (c .toward .ensures, of2 .of2 .ensures .0, of .of .ensures .0, negative .negative .ensures)
-    (moved-side-flows (a .modulus .0) (curveOf (a .side)) (a .abscissa .0) (a .trial .0) (given .0 .0) (given .0 .1 .0)
-    (rw (given .1) at (side-answers flow .0)))
+returns-2 c = let test = c .before .before in rw (c .flow .ensures) (flows (test .before) true (test .if1 .taken))
+
+flow-requires-2 : tie.Need-flow-requires-2
+flow-requires-2 c κs =
+    let test = c .before in
+    let told = test .before .before .before in
+    let s = told .before .before .before .before .before .before in
+    (rw (test .if1 .left) at (s .pre .0), fits told)
+
+returns-3 : tie.Need-returns-3
+returns-3 c = let test = c .before .before in rw (c .flow2 .ensures) (flows (test .before) false (test .if1 .left))
 
 pub isotropic-spec : {M : Type 1} → statement M
 isotropic-spec =
@@ -61,12 +83,12 @@ isotropic-spec =
     (tie.spec
     (λ c κs. search needs)
     (λ c κs. search needs)
-    (λ c κs. search needs)
     side-flow-requires
     (λ c. search needs)
     (λ c. search needs)
     returns
-    of-requires
-    of-requires-2
     (λ c κs. search needs)
-    returns-2)
+    flow-requires
+    returns-2
+    flow-requires-2
+    returns-3)

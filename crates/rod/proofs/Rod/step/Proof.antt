@@ -13,7 +13,7 @@ use Rattle.units.specs.declared.Grain.{Grain}
 use Rattle.units.specs.declared.Length.{Length}
 use Rattle.units.specs.declared.Nano.{Nano}
 use Rattle.pair.proofs.PairLaws.{pair-facts}
-use Rattle.response.specs.Response.{outcomeOf}
+use Rattle.response.specs.Response.{Answerable, outcomeOf}
 use Rattle.rod.specs.declared.step.Settled.{Settled}
 use Rattle.rod.specs.Steps.{strainAfter, trialOf, outcomeAfter, settledOf, strainLeaves, bothPassedBy, leavesRange, stepRefusals, advanceBy, advanceOf}
 use Rattle.rod.specs.Variables.{firstRight, secondRight}
@@ -24,7 +24,7 @@ use Rattle.rod.proofs.Rod.step.Tie as tie
 
 plus-requires : tie.Need-plus-requires
 plus-requires c κs =
-    omega (arith, ranged (c .args .self) (c .pre .0 .in-range) .strain, pair-facts (c .args .pair) (c .pre .1) .0)
+    omega (arith, ranged (c .args .self) (c .pre .0 .0 .in-range) .strain, pair-facts (c .args .pair) (c .pre .0 .1) .0)
 
 strain-is : (c : tie.After-at-most) → let a = c .before .before .before .before .args in
     c .at-most .result ≡ around mostStrain (strainAfter (a .self) (a .pair))
@@ -60,13 +60,15 @@ respond-requires c κs =
     let start = trial .before .before .before .before .before .before in
     let rod = start .args .self in
     let sheet = start .args .sheet in
-    let facts = ranged rod (start .pre .0 .in-range) in
-    let law = same-law sheet rod (start .pre .0 .belongs) in
+    let facts = ranged rod (start .pre .0 .0 .in-range) in
+    let law = same-law sheet rod (start .pre .0 .0 .belongs) in
+    let answerable : Answerable sheet (rod .first .0) (rod .second .0) (trial .trial .result .0) =
     record {
-      sound = start .pre .0 .sound;
+      sound = start .pre .0 .0 .sound;
       variables = variables-right (sheet .law) (rod .first .0) (rod .second .0) (ap (λ (l : Law). firstRight l (rod .first .0)) (sym law) ∙ facts .first) (ap (λ (l : Law). secondRight l (rod .second .0)) (sym law) ∙ facts .second);
       trial-most = trial .trial .ensures .1;
-    }
+    } in
+    (answerable, start .pre .1)
 
 -- what the law left is the outcome
 settled-is : (c : tie.After-settle) → let a = c .before .before .before .before .before .before .before .before .before .before .before .before .args in
@@ -80,7 +82,7 @@ settled-is c =
 leaves-range-requires : tie.Need-leaves-range-requires
 leaves-range-requires c κs =
     let start = c .before .before .before .before .before .before .before .before .before .before .before .before in
-    omega (arith, start .pre .0 .counted)
+    omega (arith, start .pre .0 .0 .counted)
 
 -- the range test, over the outcome
 leaves-is : (c : tie.After-leaves-range) → let a = c .before .before .before .before .before .before .before .before .before .before .before .before .before .args in
@@ -106,7 +108,7 @@ advance-requires c κs =
     let start = c .before .before .before .before .before .before .before .before .before .before .before .before .before .before in
     let s = c .before .before .settle .result in
     let kept = stays (start .args .self) (s .stress .0) (s .first .0) (s .second .0) (sym (c .before .leaves-range .ensures) ∙ c .if3 .left) in
-    (start .pre, (kept .stress, kept .pairs))
+    (start .pre .0, (kept .stress, kept .pairs))
 
 returns-4 : tie.Need-returns-4
 unfolding firstOf stepRefusals advanceOf

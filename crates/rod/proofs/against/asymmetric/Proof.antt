@@ -4,26 +4,31 @@ use borrow.Author.Needs.{needs}
 use borrow.Author.Tests.{not-true, not-false}
 use lib.IntN.{natAbs, negℤ}
 use Rattle.units.specs.declared.Magnitude.{Magnitude}
+use Rattle.response.specs.declared.Limits.{Limits}
 use Rattle.rod.specs.Limits.{withinLimit}
 use Rattle.rod.specs.Against.{asymmetricBelongs}
 use Rattle.rod.proofs.LimitLaws.{own-sign, other-sign, limit-test-is}
 use Rattle.rod.proofs.against.asymmetric.Statement.{statement}
 use Rattle.rod.proofs.against.asymmetric.Tie as tie
 
-in-tension : (c : tie.After-within-limit) → let start = c .before .before .before .before .before .before .before .before .before .before .before .before .before .before in
-    let a = start .args in
+in-tension : (c : tie.After-within-limit) → let a = c .before .before .before .before .before .before .before .before .before .before .before .before .before .args in
     c .within-limit .result ≡ withinLimit (a .sheet .modulus .0) (a .sheet .tension) (natAbs (a .rod .first .0)) (a .rod .stress .0)
 in-tension c =
-    let a = c .before .before .before .before .before .before .before .before .before .before .before .before .before .before .args in
-    limit-test-is (a .sheet .modulus .0) (a .sheet .tension) (c .within-limit .ensures) (ap (λ (m : Magnitude). m .0) (c .before .before .magnitude .ensures)) (c .before .before .before .negative .ensures) (ap (λ (m : Magnitude). m .0) (c .before .magnitude2 .ensures)) (own-sign (a .rod .stress .0))
+    let size = c .before .before in
+    let s = size .before .before .before .before .before .before .before .before .before .before .before in
+    let a = s .args in
+    limit-test-is (a .sheet .modulus .0) (a .sheet .tension) (natAbs (a .rod .first .0)) (natAbs (a .rod .stress .0)) (s .pre .0) (c .within-limit .ensures)
+    (ap (λ (l : Limits). l .first .0) (s .pre .1)) (size .before .negative .ensures) (ap (λ (m : Magnitude). m .0) (size .magnitude .ensures)) (own-sign (a .rod .stress .0))
 
-in-compression : (c : tie.After-within-limit2) → let first = c .before .before .before .before in
-    let a = first .before .before .before .before .before .before .before .before .before .before .before .before .before .before .args in
+in-compression : (c : tie.After-within-limit2) → let size = c .before .before .before .before .before in
+    let a = size .before .before .before .before .before .before .before .before .before .before .before .args in
     c .within-limit2 .result ≡ withinLimit (a .sheet .modulus .0) (a .sheet .compression) (natAbs (a .rod .second .0)) (negℤ (a .rod .stress .0))
 in-compression c =
-    let first = c .before .before .before .before in
-    let a = first .before .before .before .before .before .before .before .before .before .before .before .before .before .before .args in
-    limit-test-is (a .sheet .modulus .0) (a .sheet .compression) (c .within-limit2 .ensures) (ap (λ (m : Magnitude). m .0) (c .before .before .magnitude3 .ensures)) (ap not (first .before .before .before .negative .ensures)) (ap (λ (m : Magnitude). m .0) (c .before .magnitude4 .ensures)) (other-sign (a .rod .stress .0))
+    let size = c .before .before .before .before .before in
+    let s = size .before .before .before .before .before .before .before .before .before .before .before in
+    let a = s .args in
+    limit-test-is (a .sheet .modulus .0) (a .sheet .compression) (natAbs (a .rod .second .0)) (natAbs (a .rod .stress .0)) (s .pre .0) (c .within-limit2 .ensures)
+    (ap (λ (l : Limits). l .second .0) (s .pre .1)) (ap not (size .before .negative .ensures)) (ap (λ (m : Magnitude). m .0) (size .magnitude .ensures)) (other-sign (a .rod .stress .0))
 
 returns : tie.Need-returns
 unfolding asymmetricBelongs
@@ -42,16 +47,10 @@ returns-3 c =
     let first = second .before .before in
     rw (sym (first .before .past-yield .ensures) ∙ not-false _ (first .if1 .left), sym (second .before .past-yield2 .ensures) ∙ not-false _ (second .if2 .left), sym (in-tension (c .before)) ∙ not-true _ (c .if3 .taken))
 
-within-limit-requires-2 : tie.Need-within-limit-requires-2
-within-limit-requires-2 c κs =
-    let first = c .before .before .before in
-    let start = first .before .before .before .before .before .before .before .before .before .before .before .before .before .before in
-    (start .pre .0 .modulus-least, start .pre .0 .modulus-most, start .pre .0 .compression (start .pre .1))
-
 returns-4 : tie.Need-returns-4
 unfolding asymmetricBelongs
 returns-4 c =
-    let third = c .before .before .before in
+    let third = c .before .before in
     let second = third .before .before .before .before .before in
     let first = second .before .before in
     rw (sym (first .before .past-yield .ensures) ∙ not-false _ (first .if1 .left), sym (second .before .past-yield2 .ensures) ∙ not-false _ (second .if2 .left), sym (in-tension (third .before)) ∙ not-false _ (third .if3 .left))
@@ -68,9 +67,6 @@ asymmetric-spec =
     (λ c κs. search needs)
     (λ c κs. search needs)
     (λ c κs. search needs)
-    (λ c κs. search needs)
     returns-3
     (λ c κs. search needs)
-    (λ c κs. search needs)
-    within-limit-requires-2
     returns-4)

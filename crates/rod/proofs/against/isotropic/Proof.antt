@@ -1,19 +1,22 @@
-use mathlib.Core.Path.{_≡_, sym, ap₂, _∙_}
+use mathlib.Core.Path.{_≡_, refl, sym, ap, _∙_}
+use mathlib.Core.Bool.{false}
 use borrow.Author.Needs.{needs}
 use borrow.Author.Tests.{not-true, not-false}
 use lib.IntN.{pos, natAbs}
 use Rattle.units.specs.declared.Magnitude.{Magnitude}
 use Rattle.rod.specs.Limits.{withinLimit}
 use Rattle.rod.specs.Against.{isotropicBelongs}
+use Rattle.rod.proofs.LimitLaws.{limit-test-is}
 use Rattle.rod.proofs.against.isotropic.Statement.{statement}
 use Rattle.rod.proofs.against.isotropic.Tie as tie
 
-inside : (c : tie.After-within-limit) → let a = c .before .before .before .before .before .before .before .before .before .args in
+inside : (c : tie.After-within-limit) → let a = c .before .before .before .before .before .before .before .args in
     c .within-limit .result ≡ withinLimit (a .sheet .modulus .0) (a .sheet .tension) (natAbs (a .rod .first .0)) (pos (natAbs (a .rod .stress .0)))
 inside c =
-    let a = c .before .before .before .before .before .before .before .before .before .args in
-    c .within-limit .ensures
-    ∙ ap₂ (λ (m n : Magnitude). withinLimit (a .sheet .modulus .0) (a .sheet .tension) (m .0) (pos (n .0))) (c .before .before .magnitude .ensures) (c .before .magnitude2 .ensures)
+    let s = c .before .before .before .before .before .before .before in
+    let a = s .args in
+    limit-test-is (a .sheet .modulus .0) (a .sheet .tension) {t = false} {away = false} (natAbs (a .rod .first .0)) (natAbs (a .rod .stress .0)) (s .pre .0) (c .within-limit .ensures)
+    (ap (λ (m : Magnitude). m .0) (s .pre .1)) refl (ap (λ (m : Magnitude). m .0) (c .before .magnitude .ensures)) refl
 
 returns : tie.Need-returns
 unfolding isotropicBelongs
@@ -22,14 +25,14 @@ returns c = rw (sym (c .before .past-yield .ensures) ∙ not-true _ (c .if1 .tak
 returns-2 : tie.Need-returns-2
 unfolding isotropicBelongs
 returns-2 c =
-    let first = c .before .before .before .before in
+    let first = c .before .before .before in
     rw (sym (first .before .past-yield .ensures) ∙ not-false _ (first .if1 .left), sym (inside (c .before)) ∙ not-true _ (c .if2 .taken))
 
 returns-3 : tie.Need-returns-3
 unfolding isotropicBelongs
 returns-3 c =
     let second = c .before in
-    let first = second .before .before .before .before in
+    let first = second .before .before .before in
     rw (sym (first .before .past-yield .ensures) ∙ not-false _ (first .if1 .left), sym (inside (second .before)) ∙ not-false _ (second .if2 .left)) (c .no-second .ensures)
 
 pub isotropic-spec : {M : Type 1} → statement M
@@ -38,7 +41,6 @@ isotropic-spec =
     (tie.spec
     (λ c κs. search needs)
     returns
-    (λ c κs. search needs)
     (λ c κs. search needs)
     (λ c κs. search needs)
     returns-2

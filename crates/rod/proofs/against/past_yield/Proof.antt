@@ -21,13 +21,13 @@ by-magnitude y (negsuc n) e = absurd (true≢false e)
 returns : tie.Need-returns
 returns c =
     let a = c .before .before .args in
-    sym (below (a .side .«yield_stress» .0) (a .abscissa .0) (sym (c .before .negative .ensures) ∙ c .if1 .taken))
+    sym (below (a .yield-stress .0) (a .abscissa .0) (sym (c .before .negative .ensures) ∙ c .if1 .taken))
 
 returns-2 : tie.Need-returns-2
 returns-2 c =
-    let test = c .before .before .before in
+    let test = c .before .before in
     let a = test .before .before .args in
-    let y = a .side .«yield_stress» .0 in
+    let y = a .yield-stress .0 in
     c .at-most .ensures ∙ ap (λ (m : Magnitude). leb y (m .0)) (c .before .magnitude .ensures)
     ∙ sym (by-magnitude y (a .abscissa .0) (sym (test .before .negative .ensures) ∙ test .if1 .left))
 
