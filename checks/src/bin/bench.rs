@@ -82,7 +82,9 @@ fn measure(way: Way, versions: [Carry; 2], sheet: &[u8], pairs: &[u8]) -> [f64; 
     least
 }
 
+/// A text behind the program's name chooses the lines that hold it.
 fn main() {
+    let only = std::env::args().nth(1).unwrap_or_default();
     let steel = |law, compressions, segments: &[[i64; 2]]| {
         let tensions = segments.len() as i64 - compressions;
         let compression_yield = if law == 3 { 250_000 } else { 0 };
@@ -104,8 +106,11 @@ fn main() {
     for (way_name, way, versions) in ways {
         for (sheet_name, sheet) in &sheets {
             for (input, pairs) in [("cycles", cycles()), ("mixed", mixed(sheet))] {
-                let [proved, quick] = measure(way, versions, sheet, &pairs);
                 let label = format!("{way_name}, {sheet_name}, {input}");
+                if !label.contains(&only) {
+                    continue;
+                }
+                let [proved, quick] = measure(way, versions, sheet, &pairs);
                 let flows = flows(sheet, &pairs);
                 println!("{label:42} {flows:>4} % {proved:8.2} {quick:8.2} {:6.2}", quick / proved);
             }
