@@ -1,18 +1,19 @@
 -- What an answer says of the table that it comes from.
 use Prim.Native.Nat.{ℕ}
-use mathlib.Core.Path.{_≡_, refl, sym, ap}
-use mathlib.Core.Bool.{Bool, true, false, _&&_, false≢true}
+use mathlib.Core.Path.{_≡_, refl, sym, ap, _∙_}
+use mathlib.Core.Bool.{Bool, true, false, _&&_, _||_, false≢true}
 use mathlib.Core.List.{List, [], _∷_, _++_}
+use mathlib.Core.Logic.{_⊎_, inl, inr}
 use native.Mathlib.Omega.{arith}
-use Rattle.refusals.specs.Table.{Refusal, refusal, Answer, passes, refused, firstOf, pick}
+use Rattle.refusals.specs.Table.{Refusal, refusal, Answer, passes, refused, firstOf, pick, NoneApplies, Given, Decided, Follows}
 
-refused-is-not-passes : {A : Type 0} (n : ℕ) (x : A) → refused n ≡ passes x → ⊥
+pub refused-is-not-passes : {A : Type 0} (n : ℕ) (x : A) → refused n ≡ passes x → ⊥
 refused-is-not-passes n x e = let z : _≡_ {A = ℕ} 0 1 = cc in omega arith
 
-same-refused : {A : Type 0} (m n : ℕ) → _≡_ {A = Answer A} (refused m) (refused n) → m ≡ n
+pub same-refused : {A : Type 0} (m n : ℕ) → _≡_ {A = Answer A} (refused m) (refused n) → m ≡ n
 same-refused m n e = cc
 
-same-passes : {A : Type 0} (x y : A) → passes x ≡ passes y → x ≡ y
+pub same-passes : {A : Type 0} (x y : A) → passes x ≡ passes y → x ≡ y
 same-passes x y e = cc
 
 -- Where a value passes, no line of the table applies, and the value is the one given.
@@ -26,6 +27,25 @@ pub passes-none : {A : Type 0} (v : A) {x : A} → firstOf [] v ≡ passes x →
 unfolding firstOf
 passes-none v {x} e = same-passes x v (sym e)
 
+-- What passes is the value given.
+pub passes-given : {A : Type 0} (table : List Refusal) (v : A) {x : A} → firstOf table v ≡ passes x → v ≡ x
+passes-given [] v e = sym (passes-none v e)
+passes-given (r ∷ rest) v e = passes-given rest v (passes-line (r .number) (r .applies) rest v e .1)
+
+-- A number that a table gives stands in it.
+abbrev pub AllNumbers : (ℕ → Type 0) → List Refusal → Type 0
+AllNumbers P [] = Unit {0}
+AllNumbers P (r ∷ rest) = P (r .number) × AllNumbers P rest
+
+pub answer-number : {A : Type 0} (P : ℕ → Type 0) (table : List Refusal) (v : A) {n : ℕ} → AllNumbers P table → firstOf table v ≡ refused n → P n
+unfolding firstOf
+answer-number P [] v {n} all e = absurd (refused-is-not-passes n v (sym e))
+answer-number P (r ∷ rest) v {n} (right, all) e = by-line (r .applies) e (answer-number P rest v all)
+  where
+    by-line : (t : Bool) → pick t (refused (r .number)) (firstOf rest v) ≡ refused n → (firstOf rest v ≡ refused n → P n) → P n
+    by-line true e onward = let same : r .number ≡ n = same-refused (r .number) n e in rw same at right
+    by-line false e onward = onward e
+
 -- Both of two tests hold where their conjunction does.
 pub both-hold : (a b : Bool) → a && b ≡ true → (a ≡ true) × (b ≡ true)
 both-hold true b e = (refl, e)
@@ -36,6 +56,11 @@ three-hold a b c e =
     let outer = both-hold (a && b) c e in
     let inner = both-hold a b (outer .0) in
     (inner .0, inner .1, outer .1)
+
+-- Neither of two tests holds where their disjunction doesn't.
+pub neither-holds : (a b : Bool) → a || b ≡ false → (a ≡ false) × (b ≡ false)
+neither-holds true b e = absurd (false≢true (sym e))
+neither-holds false b e = (refl, e)
 
 -- Of two tables one behind the other the first decides, unless all passes there: then the second does. The values play no part in it.
 pub stops-first : {A B : Type 0} (first second : List Refusal) (v : A) (w : B) (n : ℕ) → firstOf first v ≡ refused n → firstOf (first ++ second) w ≡ refused n
@@ -57,3 +82,60 @@ goes-on (r ∷ rest) second v w {x} e = by-line (r .applies) e (goes-on rest sec
         → (firstOf rest v ≡ passes x → firstOf (rest ++ second) w ≡ firstOf second w) → pick t (refused (r .number)) (firstOf (rest ++ second) w) ≡ firstOf second w
     by-line true e onward = absurd (refused-is-not-passes (r .number) x e)
     by-line false e onward = onward e
+
+-- ---- Under the condition given there and under no other
+
+pub none-passes : {A : Type 0} (table : List Refusal) (v : A) → NoneApplies table → firstOf table v ≡ passes v
+unfolding firstOf
+none-passes [] v none = refl
+none-passes (r ∷ rest) v (not-this, none) = rw not-this (none-passes rest v none)
+
+pub passes-none-applies : {A : Type 0} (table : List Refusal) (v : A) {x : A} → firstOf table v ≡ passes x → NoneApplies table
+passes-none-applies [] v e = tt
+passes-none-applies (r ∷ rest) v e =
+    let line = passes-line (r .number) (r .applies) rest v e in
+    (line .0, passes-none-applies rest v (line .1))
+
+pub given-refused : {A : Type 0} (table : List Refusal) (v : A) {n : ℕ} → Given table n → firstOf table v ≡ refused n
+unfolding firstOf
+given-refused table v {n} g =
+    let line : firstOf (g .line ∷ g .after) v ≡ refused n = rw (g .applies, g .numbered) in
+    ap (λ (t : List Refusal). firstOf t v) (g .in-order)
+    ∙ goes-on (g .before) (g .line ∷ g .after) v v (none-passes (g .before) v (g .none-before)) ∙ line
+
+pub refused-given : {A : Type 0} (table : List Refusal) (v : A) {n : ℕ} → firstOf table v ≡ refused n → Given table n
+unfolding firstOf
+refused-given [] v {n} e = absurd (refused-is-not-passes n v (sym e))
+refused-given (r ∷ rest) v {n} e = by-line (r .applies) refl e (refused-given rest v)
+  where
+    by-line : (t : Bool) → r .applies ≡ t → pick t (refused (r .number)) (firstOf rest v) ≡ refused n → (firstOf rest v ≡ refused n → Given rest n)
+        → Given (r ∷ rest) n
+    by-line true this e onward =
+        record { before = []; line = r; after = rest; in-order = refl; none-before = tt; applies = this; numbered = same-refused (r .number) n e }
+    by-line false not-this e onward =
+        let g = onward e in
+        record {
+          before = r ∷ g .before;
+          line = g .line;
+          after = g .after;
+          in-order = ap (λ (t : List Refusal). r ∷ t) (g .in-order);
+          none-before = (not-this, g .none-before);
+          applies = g .applies;
+          numbered = g .numbered;
+        }
+
+pub decides : (table : List Refusal) → Decided table
+decides table = by-answer (firstOf table tt) refl
+  where
+    by-answer : (x : Answer (Unit {0})) → firstOf table tt ≡ x → Decided table
+    by-answer (passes v) e = inr (passes-none-applies table tt e)
+    by-answer (refused n) e = inl (n, refused-given table tt e)
+
+-- The first that applies is answered under its condition and under no other.
+pub first-follows : {A : Type 0} (table : List Refusal) (v : A) → Follows table v (firstOf table v)
+first-follows table v =
+    record {
+      decided = decides table;
+      refused-where = λ n. (refused-given table v, given-refused table v);
+      passes-where = (passes-none-applies table v, none-passes table v);
+    }
