@@ -189,9 +189,9 @@ unused-made sheet {first} e =
     (goes-on (sheetRefusals sheet) [] made (sheetOf sheet) e, cc)
 
 -- Demand 3: for every sheet and the unused rod made from it, whatever calls follow.
-pub demand-3 : (sheet first : List ℕ) → unusedAnswer sheet ≡ passes first
+pub all-within : (sheet first : List ℕ) → unusedAnswer sheet ≡ passes first
     → (sound : SheetSound (sheetOf sheet)) × ((calls : List Call) → AtEveryStop sheet sound first calls)
-demand-3 sheet first made =
+all-within sheet first made =
     let (passed, is) = unused-made sheet made in
     let sound = passed-sound sheet passed .1 in
     (sound, λ calls. subst (λ (l : List ℕ). AtEveryStop sheet sound l calls) (sym is) (at-every-stop sheet passed sound calls))

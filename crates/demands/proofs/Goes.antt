@@ -32,16 +32,24 @@ use Rattle.demands.proofs.Pieces.{take-pieces, pieces-within}
 use Rattle.demands.proofs.Walks.{written, walks, history-walked}
 
 -- The tests for 7 and 12.
-abbrev wrongList : (pairs : ℕ) → Bool
+abbrev pub wrongList : (pairs : ℕ) → Bool
 wrongList pairs = not (eqb (pairs % pairLength) 0) || ltb mostPairs (pairs / pairLength)
 
-abbrev wrongBuffers : (pairs rows next : ℕ) → Bool
+abbrev pub wrongBuffers : (pairs rows next : ℕ) → Bool
 wrongBuffers pairs rows next = ltb rows (rowLength * (pairs / pairLength)) || not (eqb next stateLength)
 
 -- Neither of two tests holds where their disjunction doesn't.
 neither : (a b : Bool) → a || b ≡ false → (a ≡ false) × (b ≡ false)
 neither true b e = absurd (true≢false e)
 neither false b e = (refl, e)
+
+-- A list of j pairs, with room for j rows and a state, meets neither 7 nor 12.
+pub enough-room : (j : ℕ) (next : ℕ) → j ≤ mostPairs → eqb next stateLength ≡ true
+    → (wrongList (pairLength * j) ≡ false) × (wrongBuffers (pairLength * j) (rowLength * j) next ≡ false)
+enough-room j next few long =
+    let count : pairLength * j / pairLength ≡ j = mul-div-right j (omega arith) in
+    let whole : pairLength * j % pairLength ≡ 0 = mul-mod-right pairLength j in
+    (rw (whole, count, le-ltb mostPairs j few), rw (count, le-ltb (rowLength * j) (rowLength * j) (omega arith), long))
 
 module _ (sheet : List ℕ) (passed : firstOf (sheetRefusals sheet) (sheetOf sheet) ≡ passes (sheetOf sheet)) where
   abbrev h : Sheet
@@ -180,14 +188,6 @@ module _ (sheet : List ℕ) (passed : firstOf (sheetRefusals sheet) (sheetOf she
         sym (pieces-within pairLength j pairs room)
         ∙ ap (λ (n : ℕ). pieces pairLength n (take (pairLength * j) pairs)) (sym (length-take-le j advances few)) in
         subst (λ (l : List (List ℕ)). History (pairAnswer h) r l (take j advances)) items (first-pairs pairs advances j e few)
-
-    -- A list of j pairs, with room for j rows and a state, meets neither 7 nor 12.
-    enough-room : (j : ℕ) (next : ℕ) → j ≤ mostPairs → eqb next stateLength ≡ true
-        → (wrongList (pairLength * j) ≡ false) × (wrongBuffers (pairLength * j) (rowLength * j) next ≡ false)
-    enough-room j next few long =
-        let count : pairLength * j / pairLength ≡ j = mul-div-right j (omega arith) in
-        let whole : pairLength * j % pairLength ≡ 0 = mul-mod-right pairLength j in
-        (rw (whole, count, le-ltb mostPairs j few), rw (count, le-ltb (rowLength * j) (rowLength * j) (omega arith), long))
 
     pub state-in : (c : Call) {l : Left} (g : Goes (c .pairs) (c .next) l) (j : ℕ) → j ≤ length (g .advances)
         → stateIn sheet (stateBytes r) c j ≡ stateBytes (lastRod r (take j (g .advances)))

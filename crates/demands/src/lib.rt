@@ -1,1 +1,1 @@
-// Definitions and theorems only: demand 3 whole, over lists of calls.
+// Definitions and theorems only: the three demands of the mission, over calls on bytes and lists of them.
