@@ -1,14 +1,13 @@
 -- One accepted pair keeps the stored rod and the bar together: the invariant of a history, under every law. What is kept of a quantity is a
 -- field of its own in the law's record (proofs/Close), so that more can be kept of it.
 use Prim.Native.Nat.{ℕ, _+_}
-use mathlib.Core.Path.{_≡_, refl}
+use mathlib.Core.Path.{_≡_, refl, sym}
 use mathlib.Core.Bool.{Bool}
-use mathlib.Core.List.{List, [], _∷_}
 use native.Mathlib.Omega.{arith}
 use borrow.Author.Tests.{not-false}
 use lib.IntN.{ℤ, pos, negsuc, natAbs, _+ℤ_, _-ℤ_, _*ℤ_}
-use Rattle.refusals.specs.Table.{Refusal, firstOf, passes}
-use Rattle.refusals.proofs.FirstLaws.{passes-line, passes-none}
+use Rattle.refusals.specs.Table.{firstOf, passes}
+use Rattle.refusals.proofs.FirstLaws.{passes-line, passes-given}
 use Rattle.law.specs.declared.Law.{Law}
 use Rattle.law.specs.declared.Law.the-variants.{IsotropicLine, IsotropicCurve, Kinematic, Asymmetric}
 use Rattle.bits.specs.Field.{flag}
@@ -36,11 +35,6 @@ use Rattle.accuracy.proofs.Isotropic.{isotropic-stays-close}
 use Rattle.accuracy.proofs.Kinematic.{kinematic-stays-close}
 use Rattle.accuracy.proofs.Asymmetric.{asymmetric-stays-close}
 use Rattle.accuracy.proofs.BarSteps.{tension-hardens, compression-hardens, step-strain}
-
--- What passes a table is the value given to it.
-passed-value : {A : Type 0} (table : List Refusal) (v : A) {x : A} → firstOf table v ≡ passes x → x ≡ v
-passed-value [] v e = passes-none v e
-passed-value (line ∷ table) v e = passed-value table v (passes-line (line .number) (line .applies) table v e .1)
 
 module _ (h : Sheet) (sound : SheetSound h) where
   abbrev E : ℕ
@@ -130,7 +124,7 @@ module _ (h : Sheet) (sound : SheetSound h) where
   unfolding answerOf
   answered r p e =
       let eight = passes-line 8 _ _ _ e in
-      record { pair = not-false _ (eight .0); step = eight .1; is = passed-value (stepRefusals h r p) (advanceOf h r p) (eight .1) }
+      record { pair = not-false _ (eight .0); step = eight .1; is = sym (passes-given (stepRefusals h r p) (advanceOf h r p) (eight .1)) }
 
   pub stays-together : (r : Rod) (b : Bar) (p : Pair) {k n : ℕ} {a : Advance} → Together k n r b → answerOf h r p ≡ passes a
       → Together (k + flag (a .row .yielded)) (n + 1) (a .rod) (barStep h sound b p)

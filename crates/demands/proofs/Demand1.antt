@@ -12,7 +12,7 @@ use lib.Dec.{eqb, ltb}
 use lib.ListN.{length, getD, take, drop, length-append}
 use lib.Seq.{take-at, drop-drop}
 use Rattle.refusals.specs.Table.{Refusal, refusal, Answer, passes, refused, firstOf, pick, NoneApplies, Given}
-use Rattle.refusals.proofs.FirstLaws.{stops-first, goes-on, neither-holds, none-passes, given-refused, decides, first-follows, answer-number}
+use Rattle.refusals.proofs.FirstLaws.{stops-first, goes-on, neither-holds, none-passes, none-split, given-refused, decides, first-follows, answer-number}
 use Rattle.bits.specs.Field.{within}
 use Rattle.pair.specs.Pairs.{pairOf, pairLength, pairRefusals, listRefusals}
 use Rattle.row.specs.Rows.{rowBytes, rowLength}
@@ -34,24 +34,13 @@ use Rattle.tie_rod.proofs.CallLaws.{handed-whole, never-handed, kept-zero, kept
 use Rattle.demands.specs.Lists.{Call, pieces, acceptedBy, callLeaves, acceptedIn}
 use Rattle.demands.specs.Demands.{pieceAt, pairCount, numbersOf, listLine, callTable, pairTable, AllPass, rodPast, rowsPast, PairGiven, Reason, Untouched, Written, CallAnswered, Answered}
 
--- ---- Tables
-
--- No line of two tables applies where none of either does.
-pub none-split : (first second : List Refusal) → NoneApplies (first ++ second) → NoneApplies first × NoneApplies second
-none-split [] second none = (tt, none)
-none-split (r ∷ first) second (this, none) = let (one, other) = none-split first second none in ((this, one), other)
-
-pub none-join : (first second : List Refusal) → NoneApplies first → NoneApplies second → NoneApplies (first ++ second)
-none-join [] second one other = other
-none-join (r ∷ first) second (this, one) other = (this, none-join first second one other)
+-- ---- Pairs, one after another
 
 -- The next piece is the first of what stands behind a piece.
 pub piece-next : (size j : ℕ) (bytes : List ℕ) → pieceAt size j (drop size bytes) ≡ pieceAt size (suc j) bytes
 piece-next size j bytes =
     let on : size + size * j ≡ size * suc j = omega arith in
     ap (take size) (drop-drop (size * j) size bytes ∙ ap (λ (n : ℕ). drop n bytes) on)
-
--- ---- Pairs, one after another
 
 module _ (h : Sheet) where
   pub pair-answer-none : (r : Rod) (pair : List ℕ) → NoneApplies (pairTable h r pair) → pairAnswer h r pair ≡ passes (advanceOf h r (pairOf pair))

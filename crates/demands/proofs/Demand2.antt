@@ -13,7 +13,7 @@ use lib.IntN.{ℤ, _-ℤ_}
 use lib.ListN.{length, take, drop, replicate, length-replicate}
 use lib.Seq.{length-take-le, take-at, drop-at}
 use Rattle.refusals.specs.Table.{refusal, refused, firstOf, pick, NoneApplies, Given}
-use Rattle.refusals.proofs.FirstLaws.{goes-on, neither-holds, none-passes, passes-none-applies, given-refused, decides, answer-number}
+use Rattle.refusals.proofs.FirstLaws.{goes-on, neither-holds, none-passes, passes-none-applies, none-split, none-join, given-refused, decides, answer-number}
 use Rattle.ranges.specs.Ranges.{mostPairs}
 use Rattle.bits.specs.Field.{within}
 use Rattle.law.specs.declared.Law.{Law}
@@ -45,7 +45,7 @@ use Rattle.demands.specs.Lists.{Call, pieces, acceptedBy, callLeaves, st
 use Rattle.demands.specs.Demands.{pieceAt, pairCount, listLine, callTable, pairTable, AllPass, rodPast, rowsPast, Written, PairSolved, EachSolved}
 use Rattle.demands.proofs.Pieces.{pieces-within}
 use Rattle.demands.proofs.Goes.{wrongList, wrongBuffers, enough-room, standing-passes}
-use Rattle.demands.proofs.Demand1.{none-split, none-join, piece-next, pair-answer-none, Ends, ends, when-given, when-all, when-until, next-long, accepted-all, accepted-until, written-to}
+use Rattle.demands.proofs.Demand1.{piece-next, pair-answer-none, Ends, ends, when-given, when-all, when-until, next-long, accepted-all, accepted-until, written-to}
 
 -- ---- One pair
 

@@ -2,7 +2,7 @@
 use Prim.Native.Nat.{ℕ, _*_, _/_, _%_, _≤_}
 use native.Mathlib.Nat.{mul-div-right, mul-div-le, mul-mod-right, zero-add}
 use mathlib.Core.Path.{_≡_, refl, sym, ap, subst, _∙_}
-use mathlib.Core.Bool.{Bool, true, false, not, _||_, and-false, true≢false}
+use mathlib.Core.Bool.{Bool, true, false, not, _||_, and-false}
 use mathlib.Core.List.{List, [], _++_}
 use native.Mathlib.Omega.{arith}
 use borrow.Author.Tests.{not-false, ltb-false, le-ltb}
@@ -10,7 +10,7 @@ use lib.Dec.{eqb, leb, ltb}
 use lib.ListN.{length, take, drop, replicate, length-replicate}
 use lib.Seq.{length-take-le}
 use Rattle.refusals.specs.Table.{Answer, passes, refused, firstOf, pick}
-use Rattle.refusals.proofs.FirstLaws.{goes-on}
+use Rattle.refusals.proofs.FirstLaws.{goes-on, neither-holds}
 use Rattle.ranges.specs.Ranges.{mostPairs}
 use Rattle.bits.specs.Field.{within}
 use Rattle.pair.specs.Pairs.{pairLength, listRefusals}
@@ -37,11 +37,6 @@ wrongList pairs = not (eqb (pairs % pairLength) 0) || ltb mostPairs (pairs / pai
 
 abbrev pub wrongBuffers : (pairs rows next : ℕ) → Bool
 wrongBuffers pairs rows next = ltb rows (rowLength * (pairs / pairLength)) || not (eqb next stateLength)
-
--- Neither of two tests holds where their disjunction doesn't.
-neither : (a b : Bool) → a || b ≡ false → (a ≡ false) × (b ≡ false)
-neither true b e = absurd (true≢false e)
-neither false b e = (refl, e)
 
 -- A list of j pairs, with room for j rows and a state, meets neither 7 nor 12.
 pub enough-room : (j : ℕ) (next : ℕ) → j ≤ mostPairs → eqb next stateLength ≡ true
@@ -122,8 +117,8 @@ module _ (sheet : List ℕ) (passed : firstOf (sheetRefusals sheet) (sheetOf she
     walked-goes pairs rows next seven twelve =
         let count = length pairs / pairLength in
         let w = walks h count 0 r pairs in
-        let few = ltb-false mostPairs count (neither (not (eqb (length pairs % pairLength) 0)) (ltb mostPairs count) seven .1) in
-        let long = not-false (eqb (length next) stateLength) (neither (ltb (length rows) (rowLength * count)) (not (eqb (length next) stateLength)) twelve .1) in
+        let few = ltb-false mostPairs count (neither-holds (not (eqb (length pairs % pairLength) 0)) (ltb mostPairs count) seven .1) in
+        let long = not-false (eqb (length next) stateLength) (neither-holds (ltb (length rows) (rowLength * count)) (not (eqb (length next) stateLength)) twelve .1) in
         record {
           advances = w .advances;
           behind = drop (length (walkedFrom h count 0 r pairs .rows)) rows;

@@ -1,15 +1,15 @@
 -- A walked list is a history of its accepted pairs, and a history's pairs are walked to its end.
 use Prim.Native.Nat.{ℕ, zero, suc, _+_, _≤_}
 use mathlib.Core.Path.{_≡_, refl, ap, _∙_}
-use mathlib.Core.Bool.{Bool, true, false, not, _&&_, and-false}
+use mathlib.Core.Bool.{true, false, not, _&&_, and-false}
 use mathlib.Core.List.{List, [], _∷_, _++_, map, append-assoc}
 use native.Mathlib.Omega.{arith}
 use borrow.Author.Tests.{not-false, leb-true, ne-eqb, lt-leb}
 use lib.Dec.{eqb, leb}
 use lib.ListN.{length, take, drop}
 use lib.Seq.{take-at, drop-at}
-use Rattle.refusals.specs.Table.{Answer, passes, refused, firstOf, pick, Refusal}
-use Rattle.refusals.proofs.FirstLaws.{passes-line, both-hold}
+use Rattle.refusals.specs.Table.{Answer, passes, refused, firstOf}
+use Rattle.refusals.proofs.FirstLaws.{passes-line, both-hold, answer-number}
 use Rattle.bits.specs.Field.{within}
 use Rattle.pair.specs.Pairs.{kind, pairOf, pairLength, pairRefusals}
 use Rattle.pair.specs.Pairs as pairs
@@ -29,26 +29,12 @@ use Rattle.demands.specs.Lists.{pieces, acceptedBy}
 
 -- ---- One pair
 
--- A number that a table gives stands in it.
-abbrev AllNumbers : (ℕ → Bool) → List Refusal → Type 0
-AllNumbers test [] = Unit {0}
-AllNumbers test (r ∷ rest) = (test (r .number) ≡ true) × AllNumbers test rest
-
-given-number : {A : Type 0} (test : ℕ → Bool) (table : List Refusal) (v : A) {n : ℕ} → AllNumbers test table → firstOf table v ≡ refused n → test n ≡ true
-unfolding firstOf
-given-number test [] v all e = cc
-given-number test (r ∷ rest) v {n} (right, all) e = by-line (r .applies) e (given-number test rest v all)
-  where
-    by-line : (t : Bool) → pick t (refused (r .number)) (firstOf rest v) ≡ refused n → (firstOf rest v ≡ refused n → test n ≡ true) → test n ≡ true
-    by-line true e onward = let same : r .number ≡ n = cc in rw same at right
-    by-line false e onward = onward e
-
 module _ (h : Sheet) (r : Rod) (bytes : List ℕ) where
   -- A refusal of one pair is 8 to 11.
   pub pair-number : {n : ℕ} → pairAnswer h r bytes ≡ refused n → within 8 11 n ≡ true
   unfolding pairAnswer pairRefusals stepRefusals
   pair-number e =
-      given-number (within 8 11) (pairRefusals bytes ++ stepRefusals h r (pairOf bytes)) (advanceOf h r (pairOf bytes))
+      answer-number (λ (n : ℕ). within 8 11 n ≡ true) (pairRefusals bytes ++ stepRefusals h r (pairOf bytes)) (advanceOf h r (pairOf bytes))
       (refl, (refl, (refl, (refl, tt)))) e
 
   -- Bytes that are accepted hold a pair that is.

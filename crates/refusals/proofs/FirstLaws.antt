@@ -3,7 +3,7 @@ use Prim.Native.Nat.{ℕ}
 use mathlib.Core.Path.{_≡_, refl, sym, ap, _∙_}
 use mathlib.Core.Bool.{Bool, true, false, _&&_, _||_, false≢true}
 use mathlib.Core.List.{List, [], _∷_, _++_}
-use mathlib.Core.Logic.{_⊎_, inl, inr}
+use mathlib.Core.Logic.{inl, inr}
 use native.Mathlib.Omega.{arith}
 use Rattle.refusals.specs.Table.{Refusal, refusal, Answer, passes, refused, firstOf, pick, NoneApplies, Given, Decided, Follows}
 
@@ -123,6 +123,15 @@ refused-given (r ∷ rest) v {n} e = by-line (r .applies) refl e (refused-given 
           applies = g .applies;
           numbered = g .numbered;
         }
+
+-- Of two tables no line applies where none of either does.
+pub none-split : (first second : List Refusal) → NoneApplies (first ++ second) → NoneApplies first × NoneApplies second
+none-split [] second none = (tt, none)
+none-split (r ∷ first) second (this, none) = let (one, other) = none-split first second none in ((this, one), other)
+
+pub none-join : (first second : List Refusal) → NoneApplies first → NoneApplies second → NoneApplies (first ++ second)
+none-join [] second one other = other
+none-join (r ∷ first) second (this, one) other = (this, none-join first second one other)
 
 pub decides : (table : List Refusal) → Decided table
 decides table = by-answer (firstOf table tt) refl
