@@ -2,16 +2,20 @@
 -- The calls before a stop, and the first pairs of the next, are one history from the unused rod; the bound is that of histories.
 use Prim.Native.Nat.{ℕ, zero, suc, _+_, _≤_}
 use mathlib.Core.Path.{_≡_, refl, sym, ap, subst, _∙_}
-use mathlib.Core.List.{List, [], _∷_, _++_, map}
+use mathlib.Core.List.{List, [], _∷_, _++_, map, append-assoc}
 use native.Mathlib.Omega.{arith}
-use lib.ListN.{length, take}
-use lib.Seq.{take-all, take-length}
-use Rattle.refusals.specs.Table.{firstOf, passes}
-use Rattle.refusals.proofs.FirstLaws.{goes-on}
+use borrow.Author.Tests.{not-false}
+use lib.Dec.{eqb}
+use lib.ListN.{length, take, drop}
+use lib.Seq.{take-all, take-at, drop-at}
+use Rattle.refusals.specs.Table.{firstOf, passes, NoneApplies}
+use Rattle.refusals.proofs.FirstLaws.{goes-on, both-hold, none-passes, passes-none-applies}
 use Rattle.pair.specs.declared.Pair.{Pair}
-use Rattle.pair.specs.Pairs.{pairLength}
+use Rattle.pair.specs.Pairs.{kind, pairOf, pairLength, pairRefusals}
+use Rattle.pair.specs.Pairs as pairs
 use Rattle.row.specs.declared.Row.{Row}
-use Rattle.row.specs.Rows.{rowOf, rowLength}
+use Rattle.row.specs.Rows.{rowOf, rowBytes, rowLength}
+use Rattle.row.proofs.RowLaws.{row-back}
 use Rattle.sheet.specs.declared.Sheet.{Sheet}
 use Rattle.sheet.specs.Sheets.{sheetOf, sheetRefusals, fieldRefusals}
 use Rattle.sheet.specs.Sound.{SheetSound}
@@ -20,6 +24,7 @@ use Rattle.rod.specs.declared.Rod.{Rod}
 use Rattle.rod.specs.declared.step.Advance.{Advance}
 use Rattle.rod.specs.States.{stateOf, stateBytes}
 use Rattle.rod.specs.Unused.{unusedOf}
+use Rattle.rod.specs.Steps.{advanceOf, stepRefusals}
 use Rattle.rod.specs.Kept.{StatePasses}
 use Rattle.rod.proofs.Kept.{unused-state-passes}
 use Rattle.rod.proofs.RoundTrip.{rod-back}
@@ -28,9 +33,60 @@ use Rattle.accuracy.specs.Within.{AtStop}
 use Rattle.accuracy.proofs.Histories.{history-append}
 use Rattle.accuracy.proofs.Bound.{history-within}
 use Rattle.tie_rod.specs.Calls.{readyOf, standingRefusals, unusedAnswer}
-use Rattle.demands.specs.Lists.{Call, pieces, callLeaves, stateAfter, acceptedIn, pairsIn, rowsIn, stateIn, Stop, upTo, pairsAt, rowsAt, stateAt, AtCall, AtEachCall, AtEveryStop}
-use Rattle.demands.proofs.Walks.{history-of-pairs, history-passes, rows-read}
-use Rattle.demands.proofs.Goes.{standing-passes, Goes, call-goes, first-pairs, state-in}
+use Rattle.tie_rod.proofs.PairAnswers.{next-passes}
+use Rattle.tie_rod.proofs.WalkLaws.{length-row}
+use Rattle.demands.specs.Lists.{Call, pieces, stateAfter, acceptedIn, pairsIn, rowsIn, stateIn, Stop, upTo, pairsAt, rowsAt, stateAt, AtCall, AtEachCall, AtEveryStop}
+use Rattle.demands.specs.Demands.{pairTable, AllPass, rodPast, rowsPast}
+use Rattle.demands.proofs.Walks.{pair-answer-none}
+use Rattle.demands.proofs.Accepted.{standing-passes, rod-passes, Wrote, wrote, passing-at, state-past, past-fine}
+
+-- ---- Pairs that all pass are a history
+
+module _ (h : Sheet) where
+  -- The states and rows that they leave.
+  unfoldable advancesPast : Rod → List (List ℕ) → List Advance
+  advancesPast r [] = []
+  advancesPast r (pair ∷ others) = advanceOf h r (pairOf pair) ∷ advancesPast (advanceOf h r (pairOf pair) .rod) others
+
+  -- Bytes that pass hold a pair that is accepted.
+  pair-accepted : (r : Rod) (pair : List ℕ) → NoneApplies (pairTable h r pair) → answerOf h r (pairOf pair) ≡ passes (advanceOf h r (pairOf pair))
+  unfolding pairTable pairRefusals answerOf firstOf
+  pair-accepted r pair (eight, rest) =
+      let right = both-hold (eqb (kind pair) 0) (pairs.inRange (pairOf pair)) (not-false _ eight) .1 in
+      rw right (none-passes (stepRefusals h r (pairOf pair)) (advanceOf h r (pairOf pair)) rest)
+
+  past-history : (r : Rod) (items : List (List ℕ)) → AllPass h r items → History (answerOf h) r (map pairOf items) (advancesPast r items)
+  unfolding advancesPast
+  past-history r [] all = tt
+  past-history r (pair ∷ items) (none, all) = (pair-accepted r pair none, past-history (advanceOf h r (pairOf pair) .rod) items all)
+
+  past-last : (r : Rod) (items : List (List ℕ)) → lastRod r (advancesPast r items) ≡ rodPast h r items
+  unfolding advancesPast lastRod rodPast
+  past-last r [] = refl
+  past-last r (pair ∷ items) = past-last (advanceOf h r (pairOf pair) .rod) items
+
+  -- Their rows are read back from the bytes written for more of them, whatever stands behind those.
+  past-rows : (j m : ℕ) (r : Rod) (bytes behind : List ℕ) → j ≤ m → StatePasses h r → AllPass h r (pieces pairLength m bytes)
+      → map rowOf (pieces rowLength j (rowsPast h r (pieces pairLength m bytes) ++ behind)) ≡ rowsOf (advancesPast r (pieces pairLength j bytes))
+  unfolding pieces rowsPast rowsOf advancesPast
+  past-rows zero m r bytes behind few p all = refl
+  past-rows (suc j) zero r bytes behind few p all = absurd (omega arith)
+  past-rows (suc j) (suc m) r bytes behind few p (none, all) =
+      let pair = take pairLength bytes in
+      let a = advanceOf h r (pairOf pair) in
+      let (next, fits) = next-passes pair (p .accepted) (pair-answer-none h r pair none) in
+      let first = rowBytes (a .row) in
+      let rest = rowsPast h (a .rod) (pieces pairLength m (drop pairLength bytes)) in
+      let apart : first ++ rest ++ behind ≡ first ++ (rest ++ behind) = append-assoc first rest behind in
+      let row : rowOf (take rowLength (first ++ rest ++ behind)) ≡ a .row =
+      ap (λ (l : List ℕ). rowOf (take rowLength l)) apart
+      ∙ ap rowOf (take-at first (rest ++ behind) rowLength (length-row (a .row))) ∙ row-back (a .row) fits in
+      let others : map rowOf (pieces rowLength j (drop rowLength (first ++ rest ++ behind)))
+      ≡ rowsOf (advancesPast (a .rod) (pieces pairLength j (drop pairLength bytes))) =
+      ap (λ (l : List ℕ). map rowOf (pieces rowLength j (drop rowLength l))) apart
+      ∙ ap (λ (l : List ℕ). map rowOf (pieces rowLength j l)) (drop-at first (rest ++ behind) rowLength (length-row (a .row)))
+      ∙ past-rows j m (a .rod) (drop pairLength bytes) behind (omega arith) next all in
+      λ i. row i ∷ others i
 
 -- ---- Two histories, one behind the other
 
@@ -70,59 +126,57 @@ module _ (sheet : List ℕ) (passed : firstOf (sheetRefusals sheet) (sheetOf she
 
   -- ---- One call
 
-  module _ (r : Rod) (p : StatePasses h r) (c : Call) where
-    abbrev s : List ℕ
-    s = stateBytes r
+  module _ (r : Rod) (p : StatePasses h r) (s : List ℕ) (is : s ≡ stateBytes r) (c : Call) where
+    rod-is : stateOf s ≡ r
+    rod-is = ap stateOf is ∙ rod-back r (p .fits)
 
-    abbrev g : Goes sheet passed r p (c .pairs) (c .next) (callLeaves sheet s c)
-    g = call-goes sheet passed r p c
+    own : s ≡ stateBytes (stateOf s)
+    own = is ∙ ap stateBytes (sym rod-is)
 
-    accepted-is : acceptedIn sheet s c ≡ length (g .advances)
-    unfolding acceptedIn
-    accepted-is = g .read-off
+    standing : NoneApplies (standingRefusals sheet s)
+    standing =
+        subst (λ (l : List ℕ). NoneApplies (standingRefusals sheet l)) (sym is)
+        (passes-none-applies (standingRefusals sheet (stateBytes r)) r (standing-passes sheet passed r p r))
 
-    call-reached : (j : ℕ) → j ≤ acceptedIn sheet s c → Reached r (pairsIn c j) (rowsIn sheet s c j) (stateIn sheet s c j)
+    abbrev w : Wrote sheet s standing c (acceptedIn sheet s c)
+    w = wrote sheet s standing c
+
+    call-reached : (j : ℕ) → j ≤ acceptedIn sheet s c → Reached (stateOf s) (pairsIn c j) (rowsIn sheet s c j) (stateIn sheet s c j)
     unfolding pairsIn rowsIn
     call-reached j few =
-        let fewer : j ≤ length (g .advances) = omega (arith, accepted-is) in
+        let here = passing-at sheet s standing c j few in
         let items = pieces pairLength j (c .pairs) in
-        let history = first-pairs sheet passed r p (c .pairs) (g .advances) j (g .history) fewer in
+        let last = past-last h (stateOf s) items in
         record {
-          advances = take j (g .advances);
-          history = history-of-pairs h r items (take j (g .advances)) history;
-          rows-are = ap (λ (l : List ℕ). map rowOf (pieces rowLength j l)) (g .rows)
-              ∙ rows-read h r (pieces pairLength (length (g .advances)) (c .pairs)) (g .advances) (g .behind) j p (g .history) fewer;
-          state-is = state-in sheet passed r p c g j fewer;
-          last-passes = history-passes h r items (take j (g .advances)) p history;
+          advances = advancesPast h (stateOf s) items;
+          history = past-history h (stateOf s) items (here .all);
+          rows-are = ap (λ (l : List ℕ). map rowOf (pieces rowLength j l)) (w .rows)
+              ∙ past-rows h j (acceptedIn sheet s c) (stateOf s) (c .pairs) (w .behind) few (rod-passes sheet s standing) (w .passing .all);
+          state-is = state-past sheet s standing c j here ∙ ap stateBytes (sym last);
+          last-passes = subst (StatePasses h) (sym last) (past-fine sheet s standing c j here);
         }
 
     ends-there : stateIn sheet s c (acceptedIn sheet s c) ≡ stateAfter sheet s c
-    unfolding stateAfter
-    ends-there =
-        ap (stateIn sheet s c) accepted-is ∙ state-in sheet passed r p c g (length (g .advances)) (omega arith)
-        ∙ ap (λ (l : List Advance). stateBytes (lastRod r l)) (take-length (g .advances)) ∙ sym (g .after)
+    ends-there = state-past sheet s standing c (acceptedIn sheet s c) (w .passing) ∙ sym (w .after-bytes own)
 
     at-call : AtCall sheet s c
-    unfolding lastRod
-    at-call = record { none-standing = g .none-standing; starts = state-in sheet passed r p c g 0 (omega arith); ends = ends-there }
+    unfolding pieces rodPast
+    at-call =
+        record {
+          none-standing = w .none-standing;
+          starts = state-past sheet s standing c 0 (passing-at sheet s standing c 0 (omega arith)) ∙ sym own;
+          ends = ends-there;
+        }
 
-    call-reached-whole : Reached r (pairsIn c (acceptedIn sheet s c)) (rowsIn sheet s c (acceptedIn sheet s c)) (stateAfter sheet s c)
-    call-reached-whole =
-        subst (λ (l : List ℕ). Reached r (pairsIn c (acceptedIn sheet s c)) (rowsIn sheet s c (acceptedIn sheet s c)) l) ends-there
-        (call-reached (acceptedIn sheet s c) (omega arith))
-
-  -- ---- The list
-
-  module _ (r : Rod) (p : StatePasses h r) (s : List ℕ) (is : s ≡ stateBytes r) (c : Call) where
     first-reached : (j : ℕ) → j ≤ acceptedIn sheet s c → Reached r (pairsIn c j) (rowsIn sheet s c j) (stateIn sheet s c j)
-    first-reached =
-        subst (λ (x : List ℕ). (j : ℕ) → j ≤ acceptedIn sheet x c → Reached r (pairsIn c j) (rowsIn sheet x c j) (stateIn sheet x c j)) (sym is)
-        (call-reached r p c)
+    first-reached j few = subst (λ (q : Rod). Reached q (pairsIn c j) (rowsIn sheet s c j) (stateIn sheet s c j)) rod-is (call-reached j few)
 
     whole-reached : Reached r (pairsIn c (acceptedIn sheet s c)) (rowsIn sheet s c (acceptedIn sheet s c)) (stateAfter sheet s c)
     whole-reached =
-        subst (λ (x : List ℕ). Reached r (pairsIn c (acceptedIn sheet x c)) (rowsIn sheet x c (acceptedIn sheet x c)) (stateAfter sheet x c)) (sym is)
-        (call-reached-whole r p c)
+        subst (λ (l : List ℕ). Reached r (pairsIn c (acceptedIn sheet s c)) (rowsIn sheet s c (acceptedIn sheet s c)) l) ends-there
+        (first-reached (acceptedIn sheet s c) (omega arith))
+
+  -- ---- The list
 
   -- A stop is reached by the history of all accepted pairs before it.
   stop-reached : (r : Rod) (p : StatePasses h r) (s : List ℕ) → s ≡ stateBytes r → (calls : List Call) (i j : ℕ) → Stop sheet s calls i j
@@ -138,7 +192,7 @@ module _ (sheet : List ℕ) (passed : firstOf (sheetRefusals sheet) (sheetOf she
   each-call r p s is [] = tt
   each-call r p s is (c ∷ calls) =
       let x = whole-reached r p s is c in (
-        subst (λ (l : List ℕ). AtCall sheet l c) (sym is) (at-call r p c),
+        at-call r p s is c,
         each-call (lastRod r (x .advances)) (x .last-passes) (stateAfter sheet s c) (x .state-is) calls,
       )
 

@@ -1,7 +1,7 @@
-pub mod Walks
 pub mod Pieces
-pub mod Goes
+pub mod Walks
 pub mod Demand1
+pub mod Accepted
 pub mod Demand2
 pub mod Demand3
 pub mod Demands

@@ -4,18 +4,11 @@ use mathlib.Core.Path.{_≡_, refl, ap, _∙_}
 use mathlib.Core.List.{List, _∷_, _++_}
 use native.Mathlib.Omega.{arith}
 use lib.ListN.{length, take, drop, length-drop}
-use lib.Seq.{length-take-le, take-at, drop-at, take-add}
+use lib.Seq.{length-take-le, take-at, drop-at, drop-drop, take-add}
 use Rattle.demands.specs.Lists.{pieces}
+use Rattle.demands.specs.Demands.{pieceAt}
 
 module _ (size : ℕ) where
-  -- The first of more pieces.
-  pub take-pieces : (j count : ℕ) (bytes : List ℕ) → j ≤ count → take j (pieces size count bytes) ≡ pieces size j bytes
-  unfolding pieces
-  take-pieces zero count bytes few = refl
-  take-pieces (suc j) zero bytes few = absurd (omega arith)
-  take-pieces (suc j) (suc count) bytes few =
-      ap (λ (l : List (List ℕ)). take size bytes ∷ l) (take-pieces j count (drop size bytes) (omega arith))
-
   -- The pieces of the bytes that they take.
   pub pieces-within : (j : ℕ) (bytes : List ℕ) → size * j ≤ length bytes → pieces size j (take (size * j) bytes) ≡ pieces size j bytes
   unfolding pieces
@@ -31,3 +24,9 @@ module _ (size : ℕ) where
       ap (λ (l : List ℕ). pieces size j (drop size l)) apart ∙ ap (pieces size j) (drop-at first (take (size * j) others) size long)
       ∙ pieces-within j others (omega (arith, length-drop size bytes)) in
       λ i. one i ∷ more i
+
+-- The next piece is the first of what stands behind a piece.
+pub piece-next : (size j : ℕ) (bytes : List ℕ) → pieceAt size j (drop size bytes) ≡ pieceAt size (suc j) bytes
+piece-next size j bytes =
+    let on : size + size * j ≡ size * suc j = omega arith in
+    ap (take size) (drop-drop (size * j) size bytes ∙ ap (λ (n : ℕ). drop n bytes) on)

@@ -172,15 +172,19 @@ pub record PairSolved (h : Sheet) (sound : SheetSound h) (r : Rod) (p : Pair) (n
   -- and in the row, with E times plastic strain.
   pub row-is : row ≡ rowAfter h r p (settledOf outcome)
 
--- "For each accepted pair" of a call, with the state that a run ending there hands back. `sound` says that the sheet passes.
+-- Pair j of a call, counted from 0: from the state that a run of the pairs before it hands back to the one that a run ending with it does,
+-- with the row that the call itself wrote. `sound` says that the sheet passes.
+abbrev pub SolvedAt : (sheet : List ℕ) → SheetSound (sheetOf sheet) → (state : List ℕ) → Call → (j : ℕ) → Type 0
+SolvedAt sheet sound state c j =
+    PairSolved (sheetOf sheet) sound (stateOf (stateIn sheet state c j)) (pairOf (pieceAt pairLength j (c .pairs)))
+    (stateOf (stateIn sheet state c (suc j))) (rowOf (pieceAt rowLength j (callLeaves sheet state c .rows)))
+
+-- "For each accepted pair" of a call, read off its number and place.
 pub record EachSolved (sheet : List ℕ) (sound : SheetSound (sheetOf sheet)) (state : List ℕ) (c : Call) : Type 0 where
-  -- The first is from the state that the call was given,
+  pub each : (j : ℕ) → j < acceptedIn sheet state c → SolvedAt sheet sound state c j
+  -- The first of them is from the state that the call was given,
   pub starts : stateOf (stateIn sheet state c 0) ≡ stateOf state
-  -- each next one from the state that the one before it left, with the row that the call itself wrote;
-  pub each : (j : ℕ) → j < acceptedIn sheet state c
-      → PairSolved (sheetOf sheet) sound (stateOf (stateIn sheet state c j)) (pairOf (pieceAt pairLength j (c .pairs)))
-      (stateOf (stateIn sheet state c (suc j))) (rowOf (pieceAt rowLength j (callLeaves sheet state c .rows)))
-  -- every such state passes 1 to 6,
+  -- every state on the way passes 1 to 6,
   pub passing : (j : ℕ) → j ≤ acceptedIn sheet state c → NoneApplies (standingRefusals sheet (stateIn sheet state c j))
-  -- and the last of them is handed back.
+  -- and the last one is handed back.
   pub ends : stateOf (stateIn sheet state c (acceptedIn sheet state c)) ≡ stateOf (stateAfter sheet state c)
