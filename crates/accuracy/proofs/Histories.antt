@@ -1,7 +1,7 @@
 -- Laws of histories, over any reading of pairs.
 use Prim.Native.Nat.{ℕ, zero, suc}
 use mathlib.Core.Path.{_≡_, refl}
-use mathlib.Core.List.{List, [], _∷_, _++_, map}
+use mathlib.Core.List.{List, [], _∷_, _++_}
 use lib.ListN.{length, take}
 use Rattle.refusals.specs.Table.{Answer, passes, refused}
 use Rattle.rod.specs.declared.Rod.{Rod}
@@ -41,13 +41,3 @@ module _ {P : Type 0} (answer : Rod → P → Answer Advance) where
           History answer r (take (length advances) (p ∷ items)) advances
       by-answer (passes a) e rest = (e, rest (a .rod))
       by-answer (refused n) e rest = tt
-
--- A history by one reading is one by another that accepts what the first does.
-pub history-along : {P Q : Type 0} (answer : Rod → P → Answer Advance) (other : Rod → Q → Answer Advance) (to : P → Q)
-    → ((r : Rod) (p : P) (a : Advance) → answer r p ≡ passes a → other r (to p) ≡ passes a)
-    → (r : Rod) (items : List P) (advances : List Advance) → History answer r items advances → History other r (map to items) advances
-history-along answer other to accepts r [] [] e = tt
-history-along answer other to accepts r [] (a ∷ advances) e = absurd e
-history-along answer other to accepts r (p ∷ items) [] e = absurd e
-history-along answer other to accepts r (p ∷ items) (a ∷ advances) (e, rest) =
-    (accepts r p a e, history-along answer other to accepts (a .rod) items advances rest)
