@@ -183,23 +183,12 @@ module _ (sheet state : List ℕ) (standing : NoneApplies (standingRefusals shee
         by-kind true e = answer-number Late _ r ((refl, refl, refl, refl), ((refl, refl, refl, refl), tt)) e
         by-kind false e = answer-number Late _ r ((refl, refl, refl, refl), ((refl, refl, refl, refl), tt)) e
 
-    -- Such a call accepts no pair, and the state stays.
+    -- Such a call accepts no pair.
     accepted-none : {n : ℕ} → Given (callTable sheet state c) n → acceptedIn sheet state c ≡ 0
     unfolding acceptedIn acceptedBy leftBy
     accepted-none {n} g =
         let (some, early, past, standing) = late g in
         ap (λ (l : Left). acceptedBy (l .reply .number) (l .reply .place) (pairCount c)) (when-given sheet state c g) ∙ rw (some, early)
-
-    after-none : {n : ℕ} → Given (callTable sheet state c) n → stateAfter sheet state c ≡ state
-    unfolding stateAfter leftBy handed
-    after-none {n} g =
-        let (some, early, past, standing) = late g in
-        ap (λ (l : Left). pick (eqb (length (c .next)) stateLength) (l .next) state) (when-given sheet state c g)
-        ∙ rw past (by-length (eqb (length (c .next)) stateLength))
-      where
-        by-length : (b : Bool) → pick b (pick b state (c .next)) state ≡ state
-        by-length true = refl
-        by-length false = refl
 
     -- What a call that accepted m pairs wrote for them, and the state that it handed on.
     pub record Wrote (m : ℕ) : Type 0 where
@@ -224,6 +213,18 @@ module _ (sheet state : List ℕ) (standing : NoneApplies (standingRefusals shee
           after = rw long (ap stateOf (w .next) ∙ rod-back _ (last .fits));
           after-bytes = λ own. rw long (w .next);
         }
+
+    -- One that accepted none hands the old state on.
+    after-none : {n : ℕ} → Given (callTable sheet state c) n → stateAfter sheet state c ≡ state
+    unfolding stateAfter leftBy handed
+    after-none {n} g =
+        let (some, early, past, standing) = late g in
+        ap (λ (l : Left). pick (eqb (length (c .next)) stateLength) (l .next) state) (when-given sheet state c g)
+        ∙ rw past (by-length (eqb (length (c .next)) stateLength))
+      where
+        by-length : (b : Bool) → pick b (pick b state (c .next)) state ≡ state
+        by-length true = refl
+        by-length false = refl
 
     wrote-none : {n : ℕ} → Given (callTable sheet state c) n → Wrote 0
     unfolding pieces rodPast rowsPast leftBy
