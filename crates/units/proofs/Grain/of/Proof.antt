@@ -2,7 +2,7 @@ use borrow.Author.Needs.{needs}
 use mathlib.Core.Path.{_≡_, refl, _∙_, ap}
 use lib.IntN.{pos, negℤ, natAbs, _-ℤ_, +ℤ-idl}
 use mir.Syntax.{w64}
-use mir.Val.{toZ}
+use mir.Val.{SFits, toZ}
 use mir.Facts.{toZ-ofZ, toZ-pos}
 use Rattle.units.specs.Kinds.{grain}
 use Rattle.units.proofs.Magnitudes.{magnitude-negated}
@@ -10,8 +10,8 @@ use Rattle.units.proofs.Words.{stored, fits-of-magnitude}
 use Rattle.units.proofs.Grain.of.Statement.{statement}
 use Rattle.units.proofs.Grain.of.Tie as tie
 
-sub-below : tie.Need-sub-below
-sub-below c =
+fits : (c : tie.Then1) → SFits w64 (pos 0 -ℤ toZ w64 (c .before .before .args .size .0))
+fits c =
     let s = c .before .before in
     let size = s .args .size .0 in
     rw (toZ-pos w64 (s .pre), +ℤ-idl (negℤ (pos size)))
@@ -20,7 +20,7 @@ sub-below c =
 below-is : (c : tie.Then1) → let size = c .before .before .args .size .0 in stored (pos 0 -ℤ toZ w64 size) ≡ negℤ (pos size)
 below-is c =
     let s = c .before .before in
-    toZ-ofZ (sub-below c) ∙ rw (toZ-pos w64 (s .pre)) (+ℤ-idl (negℤ (pos (s .args .size .0))))
+    toZ-ofZ (fits c) ∙ rw (toZ-pos w64 (s .pre)) (+ℤ-idl (negℤ (pos (s .args .size .0))))
 
 returns : tie.Need-returns
 returns c =
@@ -30,4 +30,4 @@ returns-2 : tie.Need-returns-2
 returns-2 c = rw (toZ-pos w64 (c .before .before .pre), c .if1 .left) (refl, refl)
 
 pub of-spec : {M : Type 1} → statement M
-of-spec = tie.close (tie.spec (λ c. search needs) sub-below returns returns-2)
+of-spec = tie.close (tie.spec (λ c. search needs) fits returns returns-2)
