@@ -5,19 +5,9 @@ use checks::call::{difference, Call, Entry, Outcome};
 use checks::fraction::Fraction;
 use checks::generate::sheet_bytes;
 use checks::layout;
+use checks::log::{line, steel};
 use checks::rules::{self, Row};
 use checks::VERSIONS;
-
-/// E 200,000, yield 200,000, a 1,200, with this law and these segments.
-fn board_sheet(law: i64, compression_yield: i64, segments: &[[i64; 2]]) -> Vec<u8> {
-    let compressions = (law == 3) as i64;
-    let tensions = segments.len() as i64 - compressions;
-    sheet_bytes([law, tensions, compressions, 200_000, 1_200, 200, 200_000, compression_yield, 0], segments)
-}
-
-fn line(law: i64) -> Vec<u8> {
-    board_sheet(law, 0, &[[0, 2_000]])
-}
 
 /// A run from the unused rod: what it leaves, the same by every version.
 fn run(sheet: &[u8], changes: &[(i64, i64)]) -> (Outcome, Vec<Row>, Vec<u8>) {
@@ -84,7 +74,7 @@ fn kinematic() {
 
 #[test]
 fn asymmetric() {
-    let sheet = board_sheet(3, 250_000, &[[0, 2_000], [0, 2_000]]);
+    let sheet = steel(3, 250_000, &[[0, 2_000], [0, 2_000]]);
     assert_eq!(stresses(&sheet, &[1_500_000, -3_000_000])[1], (-251_490_000_000, true));
 }
 
@@ -96,7 +86,7 @@ fn heated() {
 
 #[test]
 fn curve() {
-    let sheet = board_sheet(1, 0, &[[500_000, 20_000], [0, 2_000]]);
+    let sheet = steel(1, 0, &[[500_000, 20_000], [0, 2_000]]);
     for (change, stress) in [(1_500_000, 210_000_000_000), (2_000_000, 211_000_000_000)] {
         let (outcome, rows, _) = run(&sheet, &[(change, 200)]);
         assert_eq!((outcome.answer, rows[0].stress, rows[0].tangent), (0, stress, 2_000));
