@@ -49,7 +49,7 @@ impl Row {
         requires { ⌜ (at + rowLength ≤ length (now buffer)) × RowFits self ⌝ }
         ensures { λ _. ⌜ now (buffer .exit) ≡ put (now (buffer .entry)) at (rowBytes self) ⌝ }
     {
-        // Eight bytes where seven would do, so that the compiler joins their stores; the stress is written over the first.
+        // Eight bytes where seven would do: the compiler then joins some of their stores. The stress is written over the first.
         bits::write_signed(buffer, at + 8, 8, self.plastic.0);
         bits::write_signed(buffer, at + 3, 6, self.stress.0);
         let front = self.front();
