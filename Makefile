@@ -11,13 +11,13 @@ checks:
 
 # The log program on the board's third row. It is proved and built first, which takes some minutes in a clean clone.
 demo:
-	rt check walk_log >/dev/null
+	@sh checks/prove.sh check walk_log
 	target/bin/walk_log < examples/third_row.log
 
 # Nanoseconds a pair, beside plain Rust.
 bench:
-	rt staticlib tie_rod_c >/dev/null
-	cd checks && TIE_ROD_LIB=$(CURDIR)/target/staticlib/libtie_rod_c.a CARGO_TARGET_DIR=$(CURDIR)/target/cargo cargo run -q --offline --profile speed --bin bench
+	@sh checks/prove.sh staticlib tie_rod_c
+	cd checks && CARGO_TARGET_DIR=$(CURDIR)/target/cargo cargo run -q --offline --profile speed --bin bench
 
 # The quick loop: proves what has changed since the last time.
 check:

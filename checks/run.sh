@@ -1,9 +1,8 @@
 #!/bin/sh
-# The evidence beside the proofs: builds the archive, holds it against document
-# 01's rules over fractions, runs the C programs, looks at what the archive
-# needs, and runs the log program on every sample log. Few lines where all is
-# well; otherwise what failed, and another exit status than 0. TIE_ROD_LIB names
-# an archive that is there already.
+# The evidence beside the proofs: builds the archive, looks at what it exports
+# and needs, runs the C programs and the log program on every sample log, and
+# holds the archive against document 01's rules over fractions. Few lines where
+# all is well; otherwise what failed, and another exit status than 0.
 set -eu
 cd "$(dirname "$0")/.."
 
@@ -19,38 +18,38 @@ quiet() {
     fi
 }
 
-if [ -z "${TIE_ROD_LIB:-}" ]; then
-    quiet rt staticlib tie_rod_c
-    TIE_ROD_LIB=$(pwd)/target/staticlib/libtie_rod_c.a
-    export TIE_ROD_LIB
+sh checks/prove.sh staticlib tie_rod_c
+archive=target/staticlib/libtie_rod_c.a
+
+# What the archive exports is what the header declares: its functions, but the
+# static ones, which are compiled where they are included.
+sed -n '/^static/d; s/^[A-Za-z][A-Za-z0-9_ *]*[ *]\(tie_rod_[a-z0-9_]*\)(.*/\1/p' include/tie_rod.h | sort >"$out/declared"
+nm -g --defined-only "$archive" | sed -n 's/^[0-9a-f][0-9a-f]* [A-Za-z] //p' | sort >"$out/exported"
+if ! diff "$out/declared" "$out/exported" >"$out/log"; then
+    echo "failed: the functions of include/tie_rod.h (<) aren't what the archive exports (>):"
+    cat "$out/log"
+    exit 1
 fi
 
-# What the archive's members need and none of them defines.
-nm -g --defined-only "$TIE_ROD_LIB" | awk 'NF == 3 { print $3 }' | sort -u >"$out/defined"
-nm -u "$TIE_ROD_LIB" | awk '$1 == "U" { print $2 }' | sort -u >"$out/needed"
-others=$(comm -23 "$out/needed" "$out/defined" | grep -vxE 'memcpy|memmove|memset|memcmp' || true)
+# What the archive's members need and none of them exports.
+nm -u "$archive" | sed -n 's/^ *[A-Za-z] //p' | sort -u >"$out/needed"
+others=$(comm -23 "$out/needed" "$out/exported" | grep -vxE 'memcpy|memmove|memset|memcmp' || true)
 if [ -n "$others" ]; then
     echo "failed: the archive needs more than memcpy, memmove, memset and memcmp:"
     echo "$others"
     exit 1
 fi
-for entry in tie_rod_run tie_rod_pair tie_rod_forecast tie_rod_unused; do
-    if ! grep -qx "$entry" "$out/defined"; then
-        echo "failed: the archive doesn't define $entry"
-        exit 1
-    fi
-done
 
 compile="${CC:-cc} -O2 -Wall -Wextra -Werror -Iinclude"
-quiet $compile -std=c99 -pedantic -o "$out/firmware" examples/firmware.c "$TIE_ROD_LIB"
+quiet $compile -std=c99 -pedantic -o "$out/firmware" examples/firmware.c "$archive"
 "$out/firmware" >"$out/firmware.stdout"
 quiet diff examples/firmware.stdout "$out/firmware.stdout"
-quiet $compile -o "$out/stack" checks/stack.c "$TIE_ROD_LIB"
+quiet $compile -o "$out/stack" checks/stack.c "$archive"
 quiet "$out/stack"
 cat "$out/log"
 
 # The log program on every sample, and, within 32 MiB, on input that doesn't end.
-quiet rt check walk_log
+sh checks/prove.sh check walk_log
 program=target/bin/walk_log
 logs=0
 for log in examples/*.log examples/logs/*.log; do
@@ -67,6 +66,15 @@ echo "walk_log: $logs logs print as stored; endless input is refused"
 start=$(date +%s)
 CARGO_TARGET_DIR=target/cargo
 export CARGO_TARGET_DIR
-quiet cargo test --offline --release --manifest-path checks/Cargo.toml
-passed=$(awk '/^test result: ok/ { sum += $4 } END { print sum }' "$out/log")
-echo "checks: $passed tests passed in $(($(date +%s) - start)) s; firmware prints as stored; the archive needs only mem*"
+quiet cargo test --offline --release --color never --manifest-path checks/Cargo.toml
+
+# As many tests passed, by cargo's own summaries, as stand in the files: none
+# was left out, whatever the features and targets are.
+passed=$(awk '/^test result: ok\. / { sum += $4 } END { print sum + 0 }' "$out/log")
+written=$(cat checks/src/*.rs checks/src/bin/*.rs checks/tests/*.rs | grep -c '^ *#\[test\]$' || true)
+if [ "$passed" -eq 0 ] || [ "$passed" -ne "$written" ]; then
+    cat "$out/log"
+    echo "failed: $passed Rust tests passed, and checks/ has $written"
+    exit 1
+fi
+echo "checks: $passed tests passed in $(($(date +%s) - start)) s; firmware prints as stored; the archive exports the header's functions and needs only mem*"

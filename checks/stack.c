@@ -1,7 +1,7 @@
 /*
  * The library's peak stack: each call runs on a stack of its own that was
  * painted before, and the paint that is left tells how deep it went. Fails
- * above 8 KiB. For Linux on x86-64 with glibc.
+ * above 2 KiB. For Linux on x86-64 with glibc.
  */
 #include "tie_rod.h"
 
@@ -11,7 +11,7 @@
 #include <ucontext.h>
 
 #define STACK_BYTES (256 * 1024)
-#define MOST_BYTES (8 * 1024)
+#define MOST_BYTES (2 * 1024)
 
 static uint8_t stack[STACK_BYTES];
 static uint8_t sheet[TIE_ROD_SHEET_BYTES_MAX];

@@ -1,6 +1,7 @@
 /*
  * A logger's firmware in small: carries a rod over two heats through the C
- * interface and prints what its card and its readers get.
+ * interface (SPEC 9.10) and prints what its card and its readers get. A refusal
+ * never costs the card its state.
  */
 #include "tie_rod.h"
 
@@ -10,7 +11,7 @@
 
 #define PAIRS_OF_A_HEAT 6
 
-/* ---- fields of bits, most significant first ---- */
+/* ---- fields of bits, most significant first (SPEC 3.1 to 3.3) ---- */
 
 /* Appends the lowest `width` bits of `value` at bit `*at`. */
 static void put(uint8_t *bytes, size_t *at, unsigned width, int64_t value)
@@ -36,12 +37,12 @@ static int64_t take(const uint8_t *bytes, size_t *at, unsigned width, int is_sig
 
 /* ---- what goes in ---- */
 
-/* Law 0: E 200,000 MPa, 12e-6 per kelvin, yield 200 MPa, tangent 2,000 MPa, reference 20.0 degrees. */
-static size_t write_sheet(uint8_t *sheet)
+/* Law 0 or 2: E 200,000 MPa, 12e-6 per kelvin, yield 200 MPa, tangent 2,000 MPa, reference 20.0 degrees. */
+static size_t write_sheet(uint8_t *sheet, int law)
 {
     size_t at = 0;
     memset(sheet, 0, 20);
-    put(sheet, &at, 2, 0);       /* law */
+    put(sheet, &at, 2, law);     /* law */
     put(sheet, &at, 3, 1);       /* tension segments */
     put(sheet, &at, 3, 0);       /* compression segments */
     put(sheet, &at, 20, 200000); /* E */
@@ -121,11 +122,28 @@ static const char *who(unsigned number)
 static void print_refusal(uint64_t answer)
 {
     unsigned number = tie_rod_number(answer);
-    if (number != TIE_ROD_ACCEPTED)
-        printf("  refused with %u (%s) at pair %zu\n", number, who(number), tie_rod_place(answer));
+    if (number == TIE_ROD_ACCEPTED)
+        return;
+    printf("  refused with %u (%s)", number, who(number));
+    if (tie_rod_place(answer) != 0)
+        printf(" at pair %zu", tie_rod_place(answer));
+    printf("\n");
 }
 
-/* Carries the rod on the card over a heat, and keeps the new state on the card. */
+/*
+ * What a call leaves on the card (SPEC 9.3). On 0 and 8 to 11 the rod has moved
+ * as far as its pairs were accepted, and that state is stored. On 1 to 6 `next`
+ * is zero bytes, which would wipe the card, and on 7 and 12 the old state holds:
+ * the card is left alone, and the refusal has been reported.
+ */
+static void store(uint8_t *card, const uint8_t *next, uint64_t answer)
+{
+    if (tie_rod_has_next(answer))
+        memcpy(card, next, TIE_ROD_STATE_BYTES);
+    print_card(card);
+}
+
+/* Carries the rod on the card over a heat. */
 static void heat(const char *name, const uint8_t *sheet, size_t sheet_len, uint8_t *card,
                  const int32_t (*pairs)[2], size_t count)
 {
@@ -141,10 +159,7 @@ static void heat(const char *name, const uint8_t *sheet, size_t sheet_len, uint8
     printf("%s\n", name);
     print_rows(rows, tie_rod_rows(answer, length));
     print_refusal(answer);
-    /* After 1 to 6 there is no state to keep. */
-    if (tie_rod_number(answer) == TIE_ROD_ACCEPTED || tie_rod_number(answer) >= TIE_ROD_LIST_LENGTH)
-        memcpy(card, next, sizeof next);
-    print_card(card);
+    store(card, next, answer);
 }
 
 int main(void)
@@ -157,8 +172,10 @@ int main(void)
         {900000, 200}, {600000, 200}, {150000000, 200}, {0, 200},
     };
     uint8_t sheet[TIE_ROD_SHEET_BYTES_MAX];
+    uint8_t other[TIE_ROD_SHEET_BYTES_MAX];
     uint8_t card[TIE_ROD_STATE_BYTES];
-    size_t sheet_len = write_sheet(sheet);
+    size_t sheet_len = write_sheet(sheet, 0);
+    size_t other_len = write_sheet(other, 2);
 
     uint64_t answer = tie_rod_unused(sheet, sheet_len, card);
     printf("an unused rod\n");
@@ -168,6 +185,8 @@ int main(void)
     print_card(card);
 
     heat("first heat", sheet, sheet_len, card, first_heat, sizeof first_heat / sizeof first_heat[0]);
+    heat("second heat, by mistake with another rod's sheet", other, other_len, card, second_heat,
+         sizeof second_heat / sizeof second_heat[0]);
     heat("second heat, with a gauge that slips at its third pair", sheet, sheet_len, card, second_heat,
          sizeof second_heat / sizeof second_heat[0]);
 
@@ -179,8 +198,7 @@ int main(void)
     printf("a single pair\n");
     print_rows(row, tie_rod_rows(answer, sizeof pair));
     print_refusal(answer);
-    memcpy(card, next, sizeof card);
-    print_card(card);
+    store(card, next, answer);
 
     answer = tie_rod_forecast(sheet, sheet_len, card, sizeof card);
     printf("a forecast\n");

@@ -1,26 +1,29 @@
 /*
- * tie_rod.h: a tie rod carried from state to state, on bytes.
+ * tie_rod.h: the state of a tie rod, carried on pair by pair, on bytes.
+ *
+ * This is the part of docs/SPEC.md that C needs; numbers such as (SPEC 3.7)
+ * name its paragraphs.
  *
  * Link with libtie_rod_c.a. The library has no heap, keeps nothing between
  * calls, calls no operating system and needs nothing but memcpy, memmove,
  * memset and memcmp. Calls may run at the same time on different buffers.
  *
- * Buffers
- *   A buffer is a pointer and a length in bytes. Any bytes and any length are
- *   read to an end: what doesn't pass gets a number from the list below.
+ * Buffers (SPEC 9.1, 9.10)
+ *   A buffer is a pointer and a length in bytes. No bytes and no length can
+ *   make a call fail: each one ends with one of the numbers below.
  *   NULL with length 0 is fine. Lengths must be true.
  *   Buffers of one call must not overlap: the library's promises don't cover
  *   overlapping ones, `next == state` included.
- *   All fields are written most significant bit first, one behind another;
- *   signed ones (marked s) are two's complement.
+ *   The fields of a layout lie side by side, each with its most significant
+ *   bit in front; those marked s are in two's complement (SPEC 3.1 to 3.4).
  *
- * Units
+ * Units (SPEC 2.1)
  *   strain      10^-9, "nano"
  *   stress      10^-9 MPa, the grain, a thousandth of a pascal
  *   moduli      MPa
  *   temperature tenths of a degree Celsius
  *
- * Sheet: 14 bytes, then 6 bytes a segment, tension first.
+ * Sheet (SPEC 3.7, 3.8): 14 bytes, then 6 bytes a segment, tension first.
  *   law            2   0 isotropic line, 1 isotropic traction curve,
  *                      2 kinematic line, 3 asymmetric line
  *   segments, T    3   1; law 1: 1 to 7
@@ -33,9 +36,9 @@
  *   zero           6   0
  *   then each segment:
  *   length        28   1 to 100,000,000 nano; 0 for the last of its side
- *   tangent       20   below E, not above that of the segment before it
+ *   tangent       20   below E; along a side it never rises
  *
- * State: 37 bytes.
+ * State (SPEC 3.11): 37 bytes.
  *   law            2   the sheet's
  *   yielded        1   of the last pair; 1 needs k at least 1
  *   zero           5   0
@@ -49,12 +52,12 @@
  *   yielded k     32   those of them that yielded, at most n
  *   An abscissa is in grains, from its yield to 10^17.
  *
- * Pair: 6 bytes.
+ * Pair (SPEC 3.12): 6 bytes.
  *   kind           3   0
  *   strain change 29 s within 200,000,000
  *   temperature   16 s the new one, -2,000 to 20,000
  *
- * Result row: 16 bytes.
+ * Result row (SPEC 3.14): 16 bytes.
  *   yielded        1   1 if the pair passed a yield limit
  *   zero           3   0
  *   tangent       20   E, or after a flow that of the segment reached
@@ -76,45 +79,50 @@ extern "C" {
 #define TIE_ROD_PAIR_BYTES 6
 /* The most that a sheet's own counts can ask for. One that passes has at most 56. */
 #define TIE_ROD_SHEET_BYTES_MAX 98
-/* The longest list of pairs for one run. */
+/* The most pairs that one run takes. */
 #define TIE_ROD_PAIRS_MAX 4096
 
 /*
- * The numbers. The first that applies is answered: 1 to 7, 12, and then for
- * each pair in turn 8, 9, 11, 10.
+ * The numbers (SPEC 8.2). A call answers the first of them that applies, in this
+ * order: 1 to 7, then 12, then pair by pair 8, 9, 11 and 10.
  */
 enum tie_rod_numbers {
     TIE_ROD_ACCEPTED = 0,
 
-    /* The author of the sheet. */
+    /* For whoever wrote the sheet. */
     TIE_ROD_SHEET_LENGTH = 1,  /* below 14 bytes, or not 14 + 6 for each segment */
-    TIE_ROD_SHEET_FIELD = 2,   /* a field outside its range, or a zero bit set */
+    TIE_ROD_SHEET_FIELD = 2,   /* a field isn't in its range, or a zero field isn't 0 */
     TIE_ROD_SHEET_TANGENT = 3, /* a tangent not below E, or above the one before it */
 
-    /* The holder of the state. */
+    /* For whoever keeps the state. */
     TIE_ROD_STATE_LENGTH = 4, /* not 37 bytes */
-    TIE_ROD_STATE_FIELD = 5,  /* a field outside its range under the state's own law,
-                                 k above n, yielded 1 with k 0, or a zero bit set */
-    TIE_ROD_STATE_SHEET = 6,  /* another law than the sheet's, an abscissa below its
-                                 yield, stress outside the limits, or a second
-                                 variable other than 0 where the law has none */
+    TIE_ROD_STATE_FIELD = 5,  /* a field isn't in its range by the law that the state
+                                 names, the zero field isn't 0, n is less than k, or
+                                 the last pair yielded though k is 0 (SPEC 8.3) */
+    TIE_ROD_STATE_SHEET = 6,  /* state and sheet don't belong together: the laws differ,
+                                 an abscissa is less than its yield, the stress lies
+                                 beyond a limit, or a law without a second variable
+                                 has one that isn't 0 (SPEC 8.4) */
 
-    /* The logger. */
-    TIE_ROD_LIST_LENGTH = 7,  /* not a multiple of 6, or above 4,096 pairs; for
+    /* For the logger. */
+    TIE_ROD_LIST_LENGTH = 7,  /* not a whole number of pairs, or more than 4,096; for
                                  tie_rod_pair: not 6 bytes */
-    TIE_ROD_PAIR_FIELD = 8,   /* a pair's field outside its range */
-    TIE_ROD_PAIR_STRAIN = 9,  /* total strain would leave -10^8 to 10^8 */
+    TIE_ROD_PAIR_FIELD = 8,   /* a field of the pair isn't in its range */
+    TIE_ROD_PAIR_STRAIN = 9,  /* the new strain isn't within -10^8 to 10^8 */
 
-    /* The steel. */
-    TIE_ROD_RANGE = 10,       /* a stress, centre, abscissa or n would leave its range */
-    TIE_ROD_BOTH_LIMITS = 11, /* the trial passes both limits of law 3: does not occur */
+    /* About the steel. */
+    TIE_ROD_RANGE = 10,       /* the new stress, centre, abscissa or n wouldn't fit its
+                                 range (SPEC 8.5) */
+    TIE_ROD_BOTH_LIMITS = 11, /* law 3: the trial lies beyond the limits of both sides; no
+                                 sheet and state that pass are known to meet it, and
+                                 that none can is not proved yet (SPEC 8.7) */
 
-    /* The caller. */
+    /* For the caller. */
     TIE_ROD_BUFFER = 12       /* rows below 16 bytes a pair, or next not 37 bytes */
 };
 
 /*
- * A whole run: carries the rod over a list of up to 4,096 pairs.
+ * A whole run (SPEC 9.6): carries the rod over a list of up to 4,096 pairs.
  *
  * The answer is number + 256 * place. The place is that of the refused pair,
  * from 1, for numbers 8 to 11, and 0 otherwise.
@@ -126,10 +134,15 @@ enum tie_rod_numbers {
  *   7, 12         unchanged                    the bytes of `state`
  *   1 to 6        unchanged                    37 zero bytes
  *
- * No other byte is written: rows behind the last accepted pair keep what they
- * held. A `next` of another length than 37 is never written, nor are rows that
- * are too short, whichever number applies. An empty list is accepted: no row,
- * the old state.
+ * That is all that changes (SPEC 9.3 to 9.5): rows behind the last accepted
+ * pair keep what they held. A `next` of another length than 37 stays untouched
+ * on every answer, and so do rows that are too short. An empty list is accepted
+ * with no row, and `next` then holds the bytes of `state`.
+ *
+ * Whoever keeps the state on a card stores `next` on 0 and on 8 to 11 only, as
+ * tie_rod_has_next says. On 1 to 6 its zeros would wipe the card: leave the card
+ * alone and report the number. On 7 and 12 the old state holds, and a `next` of
+ * another length holds whatever it held before the call.
  */
 uint64_t tie_rod_run(const uint8_t *sheet, size_t sheet_len,
                      const uint8_t *state, size_t state_len,
@@ -137,7 +150,7 @@ uint64_t tie_rod_run(const uint8_t *sheet, size_t sheet_len,
                      uint8_t *rows, size_t rows_len,
                      uint8_t *next, size_t next_len);
 
-/* A single pair: as a run over a list of one; any other length is 7. */
+/* A single pair (SPEC 9.6): a run over one pair; a pair_len other than 6 gets 7. */
 uint64_t tie_rod_pair(const uint8_t *sheet, size_t sheet_len,
                       const uint8_t *state, size_t state_len,
                       const uint8_t *pair, size_t pair_len,
@@ -145,16 +158,16 @@ uint64_t tie_rod_pair(const uint8_t *sheet, size_t sheet_len,
                       uint8_t *next, size_t next_len);
 
 /*
- * The tangent modulus that a state lets one expect. The answer is
- * number + 256 * tangent; the number is 0 to 6, the tangent 0 unless it is 0.
+ * The tangent modulus that a state lets one expect (SPEC 7.13, 9.8). The answer
+ * is number + 256 * tangent; the number is 0 to 6, the tangent 0 unless it is 0.
  */
 uint64_t tie_rod_forecast(const uint8_t *sheet, size_t sheet_len,
                           const uint8_t *state, size_t state_len);
 
 /*
- * Makes an unused rod of a sheet. The answer is the number, 0 to 3. All 37
- * bytes of `state` are written: the rod, or zeros where the sheet is refused.
- * `state` is never NULL.
+ * Makes an unused rod of a sheet (SPEC 3.15, 9.9). The answer is the number, 0
+ * to 3. All 37 bytes of `state` are written: the rod, or zeros where the sheet is
+ * refused, so never lend it a card that holds a state. `state` is never NULL.
  */
 uint64_t tie_rod_unused(const uint8_t *sheet, size_t sheet_len,
                         uint8_t state[TIE_ROD_STATE_BYTES]);
@@ -169,6 +182,16 @@ static inline unsigned tie_rod_number(uint64_t answer)
 static inline size_t tie_rod_place(uint64_t answer)
 {
     return (size_t)(answer >> 8);
+}
+
+/*
+ * Whether `next` after tie_rod_run or tie_rod_pair is to be stored: the number is
+ * 0 or 8 to 11. On any other the card stays as it is.
+ */
+static inline int tie_rod_has_next(uint64_t answer)
+{
+    unsigned number = tie_rod_number(answer);
+    return number == TIE_ROD_ACCEPTED || (number >= TIE_ROD_PAIR_FIELD && number <= TIE_ROD_BOTH_LIMITS);
 }
 
 /* The rows that tie_rod_run or tie_rod_pair has written: one for each accepted pair. */

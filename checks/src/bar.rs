@@ -1,22 +1,22 @@
-//! Document 01, "The bar without rounding".
+//! The bar without rounding, which is the papers' term (SPEC 10).
 
 use crate::fraction::Fraction;
 use crate::rules::{Law, Pair, Sheet, Side};
 
-/// Fed the sheet and the accepted pairs of a history, nothing else.
+/// The sheet and the accepted pairs of a history go in, and nothing else.
 pub struct Bar<'a> {
     sheet: &'a Sheet,
     pub strain: Fraction,
     pub temperature: Fraction,
     pub stress: Fraction,
-    /// The abscissa (laws 0, 1), X (law 2), the tension abscissa (law 3).
+    /// The abscissa, for law 3 that of tension; for law 2 the centre X.
     pub first: Fraction,
-    /// The compression abscissa (law 3).
+    /// For law 3 the abscissa of compression.
     pub second: Fraction,
 }
 
 impl<'a> Bar<'a> {
-    /// It starts as the unused rod.
+    /// At first it has the numbers of the unused rod.
     pub fn new(sheet: &'a Sheet) -> Bar<'a> {
         let tension = sheet.tension.yield_stress.clone();
         Bar {
@@ -72,7 +72,7 @@ impl<'a> Bar<'a> {
     }
 }
 
-/// Where the trial is above T(A), A grows by the difference, and the answer is T at the new A.
+/// Beyond the limit the abscissa moves on by the excess, and the answer is the limit there.
 fn grow(side: &Side, abscissa: &mut Fraction, trial: &Fraction) -> Option<Fraction> {
     let past = trial - &side.limit(abscissa);
     if !past.is_positive() {

@@ -1,4 +1,4 @@
-//! Fractions: a whole number over a positive whole one.
+//! Fractions (SPEC 2.5): a numerator of either sign, a denominator above 0.
 //!
 //! Fractions are compared by cross products, so they needn't be in lowest
 //! terms. Those of a rod are over powers of E: of two denominators one nearly

@@ -1,5 +1,5 @@
-//! Document 01, "Bit layouts": fields one behind another, most significant bit
-//! first, signed ones in two's complement.
+//! The bit layouts (SPEC 3): fields side by side, each with its most significant
+//! bit in front, signed ones in two's complement.
 
 pub struct Field {
     pub name: &'static str,

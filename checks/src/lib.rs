@@ -1,5 +1,7 @@
-//! Evidence beside the proofs: document 01's rules over fractions, written from
-//! that document alone, to be held against the library through its C interface.
+//! Evidence beside the proofs: the papers' rules over fractions, written from
+//! the papers alone, to be held against the library through its C interface.
+//! "SPEC n.m" in the comments is the paragraph of docs/SPEC.md with the same
+//! subject; no code here was made from it.
 
 pub mod bar;
 pub mod big;

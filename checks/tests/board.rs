@@ -1,5 +1,5 @@
-//! Document 01, "Loops on the board": every row, by the rules, by the quick
-//! version and by the library.
+//! The board (SPEC 13): every row, by the rules, by the quick version and by the
+//! library.
 
 use checks::call::{difference, Call, Entry, Outcome};
 use checks::fraction::Fraction;

@@ -1,6 +1,6 @@
-//! Demand 3 by trial: over lists of calls on one sheet, from the unused rod,
-//! at every stop, inside runs too, everything lies within k grains of the bar
-//! without rounding, k being counted over the rows.
+//! Demand 3 by trial (SPEC 11.8, 11.9): over lists of calls on one sheet, from
+//! the unused rod, all lies within k grains of the bar without rounding at every
+//! stop, k being counted over the rows.
 
 use checks::bar::Bar;
 use checks::call::{hex, Call, Entry};
@@ -87,7 +87,7 @@ impl<'a> Walk<'a> {
         self.state = after;
     }
 
-    /// The state at a stop inside a run: the one that a run ending there hands back.
+    /// The state at a stop inside a run: what a run of the pairs up to there leaves (SPEC 11.6).
     fn state_inside(&self, call: &Call, pairs: usize) -> Vec<u8> {
         let shorter = Call {
             entry: Entry::Run,

@@ -1,5 +1,5 @@
 //! The sample logs in `examples/` are the ones that the rules write, and each
-//! number that a log can meet has one. The programs are run on those logs.
+//! number from 1 to 10 has one. The programs are run on those logs.
 
 use checks::log::{replay, samples, table, walk};
 use std::fs;

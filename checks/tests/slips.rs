@@ -1,6 +1,6 @@
-//! The checks find what document 01 warns of: each of its slips of the chalk,
-//! each of its shams and some near misses, played by a wrong version, differs
-//! from the rules within a few thousand of the calls that the library gets.
+//! The checks find what the papers warn of: each wrong step and each sham run
+//! that they name, and some near misses, played by a wrong version, differs
+//! from the rules on one of 20,000 calls such as the library gets.
 
 use checks::call::{Call, Entry, Outcome};
 use checks::fraction::Fraction;
@@ -214,7 +214,7 @@ fn each_slip_is_found() {
 
 // ---- shams of a whole run ----
 
-/// Carries the first pair truly and copies that row onward.
+/// Every row is the first pair's.
 fn copies_the_first_row(call: &Call) -> Outcome {
     let mut outcome = rules::call(call);
     let rows = outcome.accepted(&call.pairs);

@@ -51,7 +51,7 @@ fn whole(run: Carry, sheet: &[u8], state: &[u8], pairs: &[u8], rows: &mut [u8], 
     assert_eq!(run(black_box(sheet), black_box(state), black_box(pairs), rows, next), 0);
 }
 
-/// The same list by single pairs, each from the state that the last one handed back.
+/// The same list by single pairs, each from the state that its predecessor left.
 fn single(pair: Carry, sheet: &[u8], state: &[u8], pairs: &[u8], rows: &mut [u8], next: &mut [u8]) {
     let mut state: [u8; 37] = state.try_into().unwrap();
     for (bytes, row) in pairs.chunks(6).zip(rows.chunks_mut(16)) {

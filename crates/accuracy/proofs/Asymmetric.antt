@@ -1,5 +1,5 @@
--- Law 3: a pair keeps the stored rod within k of the bar, where k counts the pairs that yielded. A trial that is negative is one that is not,
--- with the two sides exchanged.
+-- SPEC 11.8 under law 3: a pair keeps the stored rod within k of the bar, where k counts the pairs that yielded. A trial that is negative
+-- is one that is not, with the two sides exchanged.
 use mathlib.Core.List.{[], _∷_}
 use mathlib.Core.Logic.{_⊎_, inl, inr, ⊎-elim}
 use Prim.Native.Nat.{ℕ, suc, _+_}
@@ -13,7 +13,7 @@ use Rattle.fractions.proofs.Cases.{cond-cases}
 use Rattle.fractions.proofs.Arithmetic.{is-within, whole-neg, within-sym, within-same, within-weaken, within-add, within-neg}
 use Rattle.bits.specs.Field.{flag}
 use Rattle.flow.specs.Side.{Side, Hardens, Flattens}
-use Rattle.flow.specs.Solution.{AsymmetricMoved, flowed, asymmetric}
+use Rattle.flow.specs.Solution.{AsymmetricSolved, flowed, asymmetric}
 use Rattle.flow.specs.Rounded.{LimitRounded}
 use Rattle.flow.specs.Stored.{SideStored, sideStored, asymmetricStored}
 use Rattle.flow.proofs.OneSide.{limit-positive}
@@ -77,7 +77,7 @@ exact-cases {tension} {compression} curve curve′ trial A B p p′ =
     (λ e′. inr (flows-down (leF-false _ _ e′))))
     (λ e. let h = leF-false _ _ e in inl (up-flows curve curve′ p p′ (positive-side (limit-positive curve p) h) h))
   where
-    case : AsymmetricMoved → Type 0
+    case : AsymmetricSolved → Type 0
     case m = Exact tension compression trial A B (m .stress) (m .tension) (m .compression)
 
     rests-down : trial <F whole (pos 0) → negF trial ≤F compression .limit B → ExactDown tension compression trial A B trial A B
@@ -223,7 +223,7 @@ asymmetric-stays-close {tension} {compression} curve curve′ flat flat′ {limi
     trial : Frac
     trial = exact-stress +F whole w
 
-    m : AsymmetricMoved
+    m : AsymmetricSolved
     m = asymmetric tension compression trial exact-A exact-B
 
     e : Exact tension compression trial exact-A exact-B (m .stress) (m .tension) (m .compression)

@@ -1,16 +1,18 @@
--- Each step of the bar is the only solution of the law's conditions from the bar's own numbers, for every bar of a history.
+-- SPEC 10.6, 10.7: each step of the bar is the only solution of the law's conditions, from the bar's numbers, for every bar of a history.
 use mathlib.Core.Path.{_≡_, refl}
-use mathlib.Core.List.{List, [], _∷_, _++_}
+use mathlib.Core.List.{List, [], _∷_}
 use native.Mathlib.Omega.{arith}
-use lib.IntN.{ℤ, pos, _+ℤ_}
-use Rattle.fractions.specs.Fraction.{Frac, _≤F_, _<F_, _≈F_, whole}
+use lib.IntN.{ℤ, pos, _+ℤ_, _-ℤ_, _*ℤ_}
+use Rattle.fractions.specs.Fraction.{Frac, _≤F_, _<F_, _≈F_, whole, _-F_}
 use Rattle.fractions.proofs.Common.{is-whole-one, is-lt}
 use Rattle.fractions.proofs.Comparison.{≤F-refl, ≈F-refl, ≈F-trans, ≈F-sym}
+use Rattle.fractions.proofs.Arithmetic.{whole-sub, rest-of-sum}
 use Rattle.law.specs.declared.Law.{Law}
 use Rattle.law.specs.declared.Law.the-variants.{IsotropicLine, IsotropicCurve, Kinematic, Asymmetric}
 use Rattle.curve.specs.Sides.{curveOf}
 use Rattle.sheet.specs.declared.Sheet.{Sheet}
 use Rattle.sheet.specs.Sound.{SheetSound}
+use Rattle.sheet.specs.Thermal.{thermalOf}
 use Rattle.pair.specs.declared.Pair.{Pair}
 use Rattle.flow.specs.Side.{Hardens}
 use Rattle.flow.proofs.Curves.{curve-hardens}
@@ -19,8 +21,10 @@ use Rattle.flow.proofs.Kinematic.{kinematic-solves, kinematic-unique}
 use Rattle.flow.proofs.Asymmetric.{asymmetric-solves, asymmetric-unique}
 use Rattle.response.proofs.SoundSides.{sound-passes}
 use Rattle.rod.specs.Unused.{unusedOf}
-use Rattle.accuracy.specs.Bar.{Bar, unusedBar, exactTrial, radius, tensionSide, compressionSide, isotropicFed, kinematicFed, asymmetricFed, fedUnder, barStep, barFrom, barAfter}
-use Rattle.accuracy.specs.Only.{MeetsUnder, OnlySolution}
+use Rattle.rod.specs.Steps.{mechanicalOf}
+use Rattle.rod.proofs.PlasticStrain.{mechanical-change, unused-plastic}
+use Rattle.accuracy.specs.Bar.{Bar, unusedBar, exactTrial, exactPlastic, radius, tensionSide, compressionSide, isotropicFed, kinematicFed, asymmetricFed, fedUnder, barStep}
+use Rattle.accuracy.specs.Only.{MeetsUnder, OnlySolution, EachStepOnly, BarSolves}
 
 module _ (h : Sheet) (sound : SheetSound h) where
   -- What is asked of a bar: its abscissas are at or above their yields.
@@ -88,12 +92,34 @@ module _ (h : Sheet) (sound : SheetSound h) where
   step-strain Kinematic b p = (refl, refl)
   step-strain Asymmetric b p = (refl, refl)
 
-  pub step-only-solution : (b : Bar) (p : Pair) → PastUnder (h .law) b → OnlySolution h sound b p (barStep h sound b p)
+  -- E times plastic strain changes as the rod's does: E times the change of mechanical strain is one whole number.
+  step-plastic : (b : Bar) (p : Pair) (c : Bar) → (c .strain ≡ b .strain +ℤ p .change .0) × (c .temperature ≡ p .temperature .0)
+      → (exactPlastic h c -F exactPlastic h b) ≈F (exactTrial h b p -F c .stress)
+  unfolding exactPlastic exactTrial
+  step-plastic b p c (strain, temperature) =
+      let E = h .modulus .0 in
+      let before = thermalOf h (b .temperature) in
+      let after = thermalOf h (p .temperature .0) in
+      let x = pos E *ℤ mechanicalOf h (b .strain) (b .temperature) in
+      let z = pos E *ℤ (p .change .0 -ℤ (after -ℤ before)) in
+      let new : pos E *ℤ mechanicalOf h (c .strain) (c .temperature) ≡ x +ℤ z =
+      rw (strain, temperature) (mechanical-change E (b .strain) (p .change .0) before after) in
+      rw new (rest-of-sum x z (b .stress) (c .stress))
+
+  unused-bar-plastic : exactPlastic h (unusedBar h) ≈F whole (pos 0)
+  unfolding exactPlastic unusedBar
+  unused-bar-plastic =
+      let u = unusedOf h in
+      ≈F-trans (whole-sub (pos (h .modulus .0) *ℤ mechanicalOf h (u .strain .0) (u .temperature .0)) (u .stress .0))
+      (rw (unused-plastic h) (≈F-refl (whole (pos 0))))
+
+  step-only-solution : (b : Bar) (p : Pair) → PastUnder (h .law) b → OnlySolution h sound b p (barStep h sound b p)
   step-only-solution b p past =
       let meets = step-meets (h .law) refl b p past in
       let (strain, temperature) = step-strain (h .law) b p in
       record {
         solves = record { strain = strain; temperature = temperature; law = meets };
+        plastic = step-plastic b p (barStep h sound b p) (strain, temperature);
         only = λ d s.
             let same = meets-same (h .law) refl (exactTrial h b p) b d (barStep h sound b p) (s .law) meets in
             record {
@@ -105,7 +131,7 @@ module _ (h : Sheet) (sound : SheetSound h) where
             };
       }
 
-  pub step-past : (b : Bar) (p : Pair) → PastUnder (h .law) b → PastUnder (h .law) (barStep h sound b p)
+  step-past : (b : Bar) (p : Pair) → PastUnder (h .law) b → PastUnder (h .law) (barStep h sound b p)
   step-past b p past = meets-past (h .law) (exactTrial h b p) b (barStep h sound b p) (step-meets (h .law) refl b p past)
 
   unused-past : (law : Law) → h .law ≡ law → PastUnder law (unusedBar h)
@@ -115,22 +141,10 @@ module _ (h : Sheet) (sound : SheetSound h) where
   unused-past Kinematic is = tt
   unused-past Asymmetric is = rw is (≤F-refl (radius h), ≤F-refl (whole (pos (h .compression .«yield_stress» .0))))
 
-  past-from : (b : Bar) (pairs : List Pair) → PastUnder (h .law) b → PastUnder (h .law) (barFrom h sound b pairs)
-  unfolding barFrom
-  past-from b [] past = past
-  past-from b (p ∷ pairs) past = past-from (barStep h sound b p) pairs (step-past b p past)
+  each-from : (b : Bar) (pairs : List Pair) → PastUnder (h .law) b → EachStepOnly h sound b pairs
+  each-from b [] past = tt
+  each-from b (p ∷ pairs) past = (step-only-solution b p past, each-from (barStep h sound b p) pairs (step-past b p past))
 
-  -- Every bar of a history has its abscissas at or above the yields.
-  pub history-past : (pairs : List Pair) → PastUnder (h .law) (barAfter h sound pairs)
-  history-past pairs = past-from (unusedBar h) pairs (unused-past (h .law) refl)
-
-  fed-last : (b : Bar) (pairs : List Pair) (p : Pair) → barFrom h sound b (pairs ++ (p ∷ [])) ≡ barStep h sound (barFrom h sound b pairs) p
-  unfolding barFrom
-  fed-last b [] p = refl
-  fed-last b (q ∷ pairs) p = fed-last (barStep h sound b q) pairs p
-
-  -- After any history, the next step is the only solution of the conditions from the bar's own numbers.
-  pub each-step-only-solution : (pairs : List Pair) (p : Pair)
-      → OnlySolution h sound (barAfter h sound pairs) p (barAfter h sound (pairs ++ (p ∷ [])))
-  each-step-only-solution pairs p =
-      rw (fed-last (unusedBar h) pairs p) (step-only-solution (barAfter h sound pairs) p (history-past pairs))
+  -- The bar of any history.
+  pub bar-solves : (pairs : List Pair) → BarSolves h sound pairs
+  bar-solves pairs = record { starts = unused-bar-plastic; steps = each-from (unusedBar h) pairs (unused-past (h .law) refl) }

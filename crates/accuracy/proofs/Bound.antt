@@ -1,13 +1,13 @@
--- Demand 3 over a history: after each of its pairs the stored rod lies within k grains of the bar, where k counts the rows that yielded.
+-- Demand 3 over a history (SPEC 11.12): after each of its pairs the stored rod lies within k grains of the bar, where k counts the rows
+-- that yielded.
 use Prim.Native.Nat.{ℕ, suc, _+_}
 use native.Mathlib.Nat.{add-zero, zero-add}
 use mathlib.Core.Path.{_≡_, refl, subst₂, _∙_}
 use mathlib.Core.Bool.{true, false, true≢false, false≢true}
-use mathlib.Core.List.{List, [], _∷_}
+use mathlib.Core.List.{List, [], _∷_, map}
 use native.Mathlib.Omega.{arith}
 use lib.IntN.{ℤ, pos, natAbs, _*ℤ_}
-use lib.ListN.{length, take}
-use Rattle.refusals.specs.Table.{passes}
+use lib.ListN.{length}
 use Rattle.fractions.specs.Fraction.{whole, Within}
 use Rattle.fractions.proofs.Comparison.{≤F-refl}
 use Rattle.fractions.proofs.Arithmetic.{within-rest}
@@ -17,25 +17,27 @@ use Rattle.bits.specs.Field.{flag}
 use Rattle.curve.specs.Sides.{curveOf}
 use Rattle.sheet.specs.declared.Sheet.{Sheet}
 use Rattle.sheet.specs.Sound.{SheetSound}
-use Rattle.pair.specs.declared.Pair.{Pair}
+use Rattle.pair.specs.Pairs.{pairOf}
 use Rattle.response.proofs.Branches.{not-negative}
 use Rattle.rod.specs.declared.Rod.{Rod}
 use Rattle.rod.specs.declared.step.Advance.{Advance}
-use Rattle.rod.specs.Variables.{firstIsAbscissa, hasSecond, abscissaRight}
+use Rattle.law.specs.Laws.{firstIsAbscissa, hasSecond}
+use Rattle.rod.specs.Variables.{abscissaRight}
 use Rattle.rod.specs.Unused.{unusedOf}
 use Rattle.rod.specs.Steps.{mechanicalOf, advanceOf}
-use Rattle.rod.specs.Kept.{StatePasses}
-use Rattle.rod.proofs.Kept.{unused-state-passes}
+use Rattle.state.specs.Passing.{StatePasses}
+use Rattle.state.proofs.Passing.{unused-state-passes}
 use Rattle.rod.proofs.RangeFacts.{ranged}
 use Rattle.rod.proofs.StepLaws.{same-law}
 use Rattle.rod.proofs.VariableLaws.{abscissa-facts}
+use Rattle.carry.specs.Walk.{lastRod, rowsOf, yieldedRows, History}
+use Rattle.carry.proofs.PairAnswers.{pair-passed}
 use Rattle.accuracy.specs.Bar.{Bar, unusedBar, exactPlastic, tensionSide, compressionSide, barStep, barFrom, barAfter}
-use Rattle.accuracy.specs.History.{answerOf, History, lastRod, rowsOf, yieldedRows, carried}
 use Rattle.accuracy.specs.Within.{LastRowShows, WithinGrains, AtStop}
 use Rattle.accuracy.proofs.Close.{LimitClose}
-use Rattle.accuracy.proofs.Histories.{history-prefix, carried-history}
+use Rattle.accuracy.proofs.BarSteps.{bar-solves}
 use Rattle.accuracy.proofs.Unused.{isotropic-starts, kinematic-starts, asymmetric-starts}
-use Rattle.accuracy.proofs.Together.{CloseUnder, Together, answered, stays-together}
+use Rattle.accuracy.proofs.Together.{CloseUnder, Together, stays-together}
 
 module _ (h : Sheet) (sound : SheetSound h) where
   -- ---- The start
@@ -70,27 +72,28 @@ module _ (h : Sheet) (sound : SheetSound h) where
 
   -- ---- The history
 
-  history-together : (r : Rod) (b : Bar) (pairs : List Pair) (advances : List Advance) {k n : ℕ} → Together h sound k n r b
-      → History (answerOf h) r pairs advances
-      → Together h sound (k + yieldedRows (rowsOf advances)) (n + length pairs) (lastRod r advances) (barFrom h sound b pairs)
-  unfolding yieldedRows rowsOf lastRod barFrom
+  history-together : (r : Rod) (b : Bar) (pairs : List (List ℕ)) (advances : List Advance) {k n : ℕ} → Together h sound k n r b
+      → History h r pairs advances
+      → Together h sound (k + yieldedRows (rowsOf advances)) (n + length (map pairOf pairs)) (lastRod r advances) (barFrom h sound b (map pairOf pairs))
+  unfolding yieldedRows lastRod barFrom
   history-together r b [] [] {k} {n} t e = rw (add-zero k, add-zero n) t
   history-together r b [] (a ∷ advances) t e = absurd e
   history-together r b (p ∷ pairs) [] t e = absurd e
   history-together r b (p ∷ pairs) (a ∷ advances) {k} {n} t (e, rest) =
-      let next = history-together (a .rod) (barStep h sound b p) pairs advances (stays-together h sound r b p t e) rest in
+      let next = history-together (a .rod) (barStep h sound b (pairOf p)) pairs advances (stays-together h sound r b p t e) rest in
       let more = yieldedRows (rowsOf advances) in
       let ks : k + flag (a .row .yielded) + more ≡ k + (flag (a .row .yielded) + more) = omega arith in
-      let ns : n + 1 + length pairs ≡ n + suc (length pairs) = omega arith in
-      subst₂ (λ (x y : ℕ). Together h sound x y (lastRod (a .rod) advances) (barFrom h sound (barStep h sound b p) pairs)) ks ns next
+      let m = length (map pairOf pairs) in
+      let ns : n + 1 + m ≡ n + suc m = omega arith in
+      subst₂ (λ (x y : ℕ). Together h sound x y (lastRod (a .rod) advances) (barFrom h sound (barStep h sound b (pairOf p)) (map pairOf pairs))) ks ns next
 
-  last-row-shows : (r : Rod) (pairs : List Pair) (advances : List Advance) → History (answerOf h) r pairs advances
+  last-row-shows : (r : Rod) (pairs : List (List ℕ)) (advances : List Advance) → History h r pairs advances
       → LastRowShows h (rowsOf advances) (lastRod r advances)
-  unfolding rowsOf lastRod advanceOf
+  unfolding lastRod advanceOf
   last-row-shows r [] [] e = tt
   last-row-shows r [] (a ∷ advances) e = absurd e
   last-row-shows r (p ∷ pairs) [] e = absurd e
-  last-row-shows r (p ∷ []) (a ∷ []) (e, rest) = rw (answered h sound r p e .is) (refl, refl, refl)
+  last-row-shows r (p ∷ []) (a ∷ []) (e, rest) = rw (pair-passed h r p e .is) (refl, refl, refl)
   last-row-shows r (p ∷ (q ∷ pairs)) (a ∷ []) (e, rest) = absurd rest
   last-row-shows r (p ∷ pairs) (a ∷ (c ∷ advances)) (e, rest) = last-row-shows (a .rod) pairs (c ∷ advances) rest
 
@@ -151,30 +154,17 @@ module _ (h : Sheet) (sound : SheetSound h) where
 
   -- ---- The theorem
 
-  -- At the end of a history,
-  pub history-end-within : (pairs : List Pair) (advances : List Advance) → History (answerOf h) (unusedOf h) pairs advances
-      → AtStop h sound pairs (rowsOf advances) (lastRod (unusedOf h) advances)
-  history-end-within pairs advances e =
+  -- At the end of any history from the unused rod of a sheet that passes, whatever its law. What stands before a pair of a history is one
+  -- (carry/Histories), so that it holds after each pair.
+  pub history-within : (pairs : List (List ℕ)) (advances : List Advance) → History h (unusedOf h) pairs advances
+      → AtStop h sound (map pairOf pairs) (rowsOf advances) (lastRod (unusedOf h) advances)
+  history-within pairs advances e =
       let t = history-together (unusedOf h) (unusedBar h) pairs advances starts-together e in
       let k = yieldedRows (rowsOf advances) in
       record {
-        within = rw (zero-add k) at (within-grains (lastRod (unusedOf h) advances) (barAfter h sound pairs) t);
+        within = rw (zero-add k) at (within-grains (lastRod (unusedOf h) advances) (barAfter h sound (map pairOf pairs)) t);
         k-counted = t .k-counted ∙ zero-add k;
-        n-counted = t .n-counted ∙ zero-add (length pairs);
+        n-counted = t .n-counted ∙ zero-add (length (map pairOf pairs));
         row-shows = last-row-shows (unusedOf h) pairs advances e;
-        passes = t .passes;
+        bar = bar-solves h sound (map pairOf pairs);
       }
-
-  -- and after each pair of it: any list of pairs accepted one after another from the unused rod of a sheet that passes, whatever its law.
-  pub history-within : (pairs : List Pair) (advances : List Advance) → History (answerOf h) (unusedOf h) pairs advances → (j : ℕ)
-      → AtStop h sound (take j pairs) (rowsOf (take j advances)) (lastRod (unusedOf h) (take j advances))
-  history-within pairs advances e j =
-      history-end-within (take j pairs) (take j advances) (history-prefix (answerOf h) (unusedOf h) pairs advances j e)
-
-  -- Any list of pairs, carried until one is refused: the pairs before that one are such a history.
-  pub carried-within : (pairs : List Pair) (j : ℕ)
-      → let advances = carried (answerOf h) (unusedOf h) pairs .advances in
-      AtStop h sound (take j (take (length advances) pairs)) (rowsOf (take j advances)) (lastRod (unusedOf h) (take j advances))
-  carried-within pairs j =
-      let advances = carried (answerOf h) (unusedOf h) pairs .advances in
-      history-within (take (length advances) pairs) advances (carried-history (answerOf h) (unusedOf h) pairs) j

@@ -1,5 +1,5 @@
--- Law 2 under one pair, rounded or not: inside the radius about the centre, or beyond it. The centre x moves to x′ and the stress becomes q.
--- `g` is what rounding may take from the centre's move: 1 for the stored rod, 0 for the bar.
+-- Law 2 under one pair, rounded or not (SPEC 6.9, 7.3): inside the radius about the centre, or beyond it. The centre x moves to x′ and the
+-- stress becomes q. `g` is what rounding may take from the centre's move: 1 for the stored rod, 0 for the bar.
 use mathlib.Core.Path.{_≡_, ap}
 use mathlib.Core.List.{[], _∷_}
 use Prim.Native.Nat.{ℕ, _+_, _*_, _≤_, _<_}
@@ -70,8 +70,8 @@ module _ {E t : ℕ} {h : 0 < E} (slope : t ≤ E) {g : ℕ} {y s x q x′ : Fra
         is-within k v v₀ .1 (record { above = omega arith; below = omega arith }),
       ))
 
--- Both beyond the radius on the same side: E (x′ - c′) is (E - t) (x - c) + t (s - z), but for the rounding. In naturals: the first centre's
--- move is at most its share, the second one's at least its own, but for n.
+-- Both beyond the radius on the same side: E (x′ - c′) is (E - t) (x - c) + t (s - z), but for the rounding. In naturals: the first
+-- centre's move is at most its share, the second one's at least its own, but for n.
 moves-differ : (E t x₁ x₂ v₁ v₂ s₁ s₂ c₁ c₂ w₁ w₂ z₁ z₂ y₁ y₂ m n : ℕ)
     → E * v₁ + (E * x₂ + t * (s₂ + x₁ + y₁)) ≤ E * x₁ + t * (s₁ + x₂ + y₂) + E * v₂
     → E * c₁ + t * (z₁ + c₂ + y₂) + (E * w₂ + m) ≤ E * w₁ + n + (E * c₂ + t * (z₂ + c₁ + y₁))

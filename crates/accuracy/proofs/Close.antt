@@ -1,4 +1,5 @@
--- The invariant of a history, law by law: what lies within k of the bar's, a field for each quantity, and the abscissas past their yields.
+-- The invariant of a history, law by law (SPEC 11.8): what lies within k of the bar's, a field for each quantity, and the abscissas past
+-- their yields.
 use Prim.Native.Nat.{ℕ}
 use lib.IntN.{ℤ, pos}
 use Rattle.fractions.specs.Fraction.{Frac, _≤F_, whole, Within}

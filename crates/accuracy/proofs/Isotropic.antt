@@ -1,4 +1,4 @@
--- Laws 0 and 1: a pair keeps the stored rod within k of the bar, where k counts the pairs that yielded.
+-- SPEC 11.8 under laws 0 and 1: a pair keeps the stored rod within k of the bar, where k counts the pairs that yielded.
 use mathlib.Core.Logic.{inl, inr, ⊎-elim}
 use Prim.Native.Nat.{ℕ, _+_}
 use native.Mathlib.Nat.{add-zero}
@@ -12,7 +12,7 @@ use Rattle.fractions.proofs.Arithmetic.{whole-abs, whole-signed, within-sym, wi
 use Rattle.fractions.proofs.Signs.{signed-abs, abs-not-negative}
 use Rattle.bits.specs.Field.{flag}
 use Rattle.flow.specs.Side.{Side, Hardens, Flattens}
-use Rattle.flow.specs.Solution.{Moved, flowed, isotropic}
+use Rattle.flow.specs.Solution.{Solved, flowed, isotropic}
 use Rattle.flow.specs.Rounded.{LimitRounded}
 use Rattle.flow.specs.Stored.{SideStored, sideStored, isotropicStored}
 use Rattle.flow.proofs.OneSide.{limit-positive}
@@ -33,7 +33,7 @@ exact-move : {side : Side} → Hardens side → (trial a : Frac) → side .yield
     → ExactMove side trial a (isotropic side trial a .stress) (isotropic side trial a .variable)
 unfolding isotropic
 exact-move {side} curve trial a p =
-    cond-cases (λ (m : Moved). ExactMove side trial a (m .stress) (m .variable)) _ _ _
+    cond-cases (λ (m : Solved). ExactMove side trial a (m .stress) (m .variable)) _ _ _
     (λ e.
     record {
       magnitude = absF trial;
@@ -71,7 +71,7 @@ module _ {side : Side} (curve : Hardens side) (flat : Flattens side) {limit : �
       g : ℕ
       g = flag (r .yielded)
 
-      b : Moved
+      b : Solved
       b = isotropic side exact-trial exact-A
 
       near : Within k (whole trial) exact-trial

@@ -1,4 +1,4 @@
--- Law 2: a pair keeps the stored rod within k of the bar, where k counts the pairs that yielded.
+-- SPEC 11.8 under law 2: a pair keeps the stored rod within k of the bar, where k counts the pairs that yielded.
 use mathlib.Core.Bool.{Bool, true, false}
 use mathlib.Core.Path.{_≡_, refl, sym, _∙_, ap}
 use mathlib.Core.List.{[], _∷_}
@@ -18,7 +18,7 @@ use Rattle.fractions.proofs.Arithmetic.{add-same, sub-same, times-same, times-n
 use Rattle.fractions.proofs.Signs.{sign-cases}
 use Rattle.fractions.proofs.Rounded.{is-floor, floor-same, floor-times}
 use Rattle.bits.specs.Field.{flag}
-use Rattle.flow.specs.Solution.{Moved, kinematic}
+use Rattle.flow.specs.Solution.{Solved, kinematic}
 use Rattle.flow.specs.Stored.{KinematicStored, kinematicStored}
 use Rattle.flow.proofs.Asymmetric.{negated-twice}
 use Rattle.accuracy.proofs.Close.{KinematicClose}
@@ -117,7 +117,7 @@ module _ {E t : ℕ} {h : 0 < E} {y : Frac} where
   exact-centre : (s x : Frac) → let m = kinematic E t h y s x in CentreMove E t h 0 y s x (m .stress) (m .variable)
   unfolding kinematic
   exact-centre s x =
-      cond-cases (λ (m : Moved). CentreMove E t h 0 y s x (m .stress) (m .variable)) _ _ _
+      cond-cases (λ (m : Solved). CentreMove E t h 0 y s x (m .stress) (m .variable)) _ _ _
       (λ e. inside (exact-inside (leF-true _ _ e)) (≈F-refl s) (≈F-refl x))
       (λ e. ⊎-elim (λ (u, sign). beyond true (upper (leF-false _ _ e) u sign)) (λ (u, sign). beyond false (lower (leF-false _ _ e) u sign))
       (sign-cases v))

@@ -10,5 +10,4 @@ pub mod Kinematic
 pub mod Unused
 pub mod BarSteps
 pub mod Together
-pub mod Histories
 pub mod Bound

@@ -1,5 +1,5 @@
--- The bound on one side, on magnitudes: the stored rod (x, a to y, b, rounded by at most g) and the bar (z, c to w, e, not rounded) that
--- were within k are within k + g.
+-- The bound of SPEC 11.8 on one side, on magnitudes: the stored rod (x, a to y, b, rounded by at most g) and the bar (z, c to w, e, not
+-- rounded) that were within k are within k + g.
 use mathlib.Core.Path.{_≡_}
 use mathlib.Core.List.{[], _∷_}
 use mathlib.Core.Logic.{inl, inr, ⊎-elim}

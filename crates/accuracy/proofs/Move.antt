@@ -1,5 +1,5 @@
--- One side of a curve under one pair, on magnitudes, rounded or not: it rests or flows. `g` is what rounding may add: 1 for the stored
--- rod, 0 for the bar. What both have in common carries the bound.
+-- One side of a curve under one pair, on magnitudes, rounded or not (SPEC 6.9, 7.2): it rests or flows. `g` is what rounding may add: 1 for
+-- the stored rod, 0 for the bar. What both have in common carries the bound.
 use mathlib.Core.List.{[], _∷_}
 use mathlib.Core.Logic.{_⊎_}
 use Prim.Native.Nat.{ℕ}

@@ -1,13 +1,12 @@
--- One accepted pair keeps the stored rod and the bar together: the invariant of a history, under every law. What is kept of a quantity is a
--- field of its own in the law's record (proofs/Close), so that more can be kept of it.
+-- One accepted pair keeps the stored rod and the bar together (SPEC 11.12): the invariant of a history, under every law. What is kept of a
+-- quantity is a field of its own in the law's record (proofs/Close), so that more can be kept of it.
 use Prim.Native.Nat.{ℕ, _+_}
-use mathlib.Core.Path.{_≡_, refl, sym}
+use mathlib.Core.Path.{_≡_, refl}
 use mathlib.Core.Bool.{Bool}
+use mathlib.Core.List.{List}
 use native.Mathlib.Omega.{arith}
-use borrow.Author.Tests.{not-false}
 use lib.IntN.{ℤ, pos, negsuc, natAbs, _+ℤ_, _-ℤ_, _*ℤ_}
-use Rattle.refusals.specs.Table.{firstOf, passes}
-use Rattle.refusals.proofs.FirstLaws.{passes-line, passes-given}
+use Rattle.refusals.specs.Table.{passes}
 use Rattle.law.specs.declared.Law.{Law}
 use Rattle.law.specs.declared.Law.the-variants.{IsotropicLine, IsotropicCurve, Kinematic, Asymmetric}
 use Rattle.bits.specs.Field.{flag}
@@ -17,6 +16,7 @@ use Rattle.sheet.specs.declared.Sheet.{Sheet}
 use Rattle.sheet.specs.Sound.{SheetSound}
 use Rattle.sheet.specs.Thermal.{thermalOf}
 use Rattle.pair.specs.declared.Pair.{Pair}
+use Rattle.pair.specs.Pairs.{pairOf}
 use Rattle.flow.specs.Side.{Flattens}
 use Rattle.flow.specs.Stored.{isotropicStored, asymmetricStored}
 use Rattle.flow.proofs.Curves.{curve-flattens, curve-rounded}
@@ -24,12 +24,11 @@ use Rattle.response.specs.Response.{Outcome, isotropicMoved, kinematicMoved, as
 use Rattle.response.proofs.SoundSides.{sound-passes}
 use Rattle.rod.specs.declared.Rod.{Rod}
 use Rattle.rod.specs.declared.step.Advance.{Advance}
-use Rattle.rod.specs.Steps.{trialOf, settledOf, rodAfter, advanceOf, stepRefusals}
-use Rattle.rod.specs.Steady.{PairAccepted}
-use Rattle.rod.specs.Kept.{StatePasses}
-use Rattle.rod.proofs.Kept.{next-state-passes}
+use Rattle.rod.specs.Steps.{trialOf, rodAfter, advanceOf}
+use Rattle.state.specs.Passing.{StatePasses}
+use Rattle.carry.specs.Walk.{pairAnswer}
+use Rattle.carry.proofs.PairAnswers.{pair-passed, next-passes}
 use Rattle.accuracy.specs.Bar.{Bar, exactTrial, tensionSide, compressionSide, isotropicFed, kinematicFed, asymmetricFed, fedUnder, barStep}
-use Rattle.accuracy.specs.History.{answerOf}
 use Rattle.accuracy.proofs.Close.{IsotropicClose, KinematicClose, AsymmetricClose}
 use Rattle.accuracy.proofs.Isotropic.{isotropic-stays-close}
 use Rattle.accuracy.proofs.Kinematic.{kinematic-stays-close}
@@ -57,7 +56,7 @@ module _ (h : Sheet) (sound : SheetSound h) where
 
   module _ (r : Rod) (b : Bar) (p : Pair) (k : ℕ) (same : r .temperature .0 ≡ b .temperature) where
     abbrev after : Outcome → Rod
-    after o = rodAfter r p (settledOf o)
+    after o = rodAfter r p o
 
     -- E times the change of mechanical strain: the same whole number for both.
     abbrev change : ℤ
@@ -114,24 +113,13 @@ module _ (h : Sheet) (sound : SheetSound h) where
     pub temperature : r .temperature .0 ≡ b .temperature
     pub close : CloseUnder (h .law) k r b
 
-  -- What an accepted pair passed, 8 and the step's own table, and what it leaves.
-  pub record Answered (r : Rod) (p : Pair) (a : Advance) : Type 0 where
-    pub pair : PairAccepted p
-    pub step : firstOf (stepRefusals h r p) (advanceOf h r p) ≡ passes a
-    pub is : a ≡ advanceOf h r p
-
-  pub answered : (r : Rod) (p : Pair) {a : Advance} → answerOf h r p ≡ passes a → Answered r p a
-  unfolding answerOf
-  answered r p e =
-      let eight = passes-line 8 _ _ _ e in
-      record { pair = not-false _ (eight .0); step = eight .1; is = sym (passes-given (stepRefusals h r p) (advanceOf h r p) (eight .1)) }
-
-  pub stays-together : (r : Rod) (b : Bar) (p : Pair) {k n : ℕ} {a : Advance} → Together k n r b → answerOf h r p ≡ passes a
-      → Together (k + flag (a .row .yielded)) (n + 1) (a .rod) (barStep h sound b p)
+  pub stays-together : (r : Rod) (b : Bar) (pair : List ℕ) {k n : ℕ} {a : Advance} → Together k n r b → pairAnswer h r pair ≡ passes a
+      → Together (k + flag (a .row .yielded)) (n + 1) (a .rod) (barStep h sound b (pairOf pair))
   unfolding advanceOf
-  stays-together r b p {k} {n} {a} t e =
-      let answer = answered r p e in
-      let next = next-state-passes p (t .passes .accepted) (answer .pair) (answer .step) in
+  stays-together r b pair {k} {n} {a} t e =
+      let p = pairOf pair in
+      let answer = pair-passed h r pair e in
+      let next = next-passes pair (t .passes .accepted) e .0 in
       let (strain, temperature) = step-strain h sound (h .law) b p in
       let close = close-kept r b p k (t .temperature) (h .law) refl (t .close) in
       record {

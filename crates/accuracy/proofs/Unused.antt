@@ -1,4 +1,4 @@
--- An unused rod and the unused bar are the same: within nought of one another.
+-- SPEC 10.2: an unused rod and the unused bar are the same: within nought of one another.
 use Prim.Native.Nat.{ℕ}
 use lib.IntN.{ℤ, pos}
 use Rattle.fractions.specs.Fraction.{_≤F_, whole}

@@ -1,5 +1,5 @@
--- "The bar without rounding" (document 01): demand 3's exact solution. It is fed the sheet and pairs and nothing else; its steps are the
--- exact ones of crate flow. `sound` says that the sheet passes, so that E is above 0. Definitions only; nothing is assumed.
+-- The bar without rounding (SPEC 10.1 to 10.5), which demand 3 compares the stored rod with, cited by Only, Within and demands; definitions
+-- only, nothing is assumed. A sheet and pairs go in and nothing of the library; `sound` says that the sheet passes, so that E is above 0.
 use mathlib.Core.List.{List, [], _∷_}
 use lib.IntN.{ℤ, pos, _+ℤ_, _-ℤ_, _*ℤ_}
 use Rattle.fractions.specs.Fraction.{Frac, whole, _+F_, _-F_}
@@ -12,23 +12,23 @@ use Rattle.sheet.specs.Thermal.{thermalOf}
 use Rattle.pair.specs.declared.Pair.{Pair}
 use Rattle.flow.specs.Side.{Side}
 use Rattle.flow.specs.CurveSide.{sideOf}
-use Rattle.flow.specs.Solution.{Moved, isotropic, kinematic, asymmetric}
+use Rattle.flow.specs.Solution.{Solved, isotropic, kinematic, asymmetric}
 use Rattle.rod.specs.declared.Rod.{Rod}
 use Rattle.rod.specs.Unused.{unusedOf}
 use Rattle.rod.specs.Steps.{mechanicalOf}
 
--- "It holds strain, temperature, stress and the law's abscissas or X, as fractions." Each fraction has its own denominator. Strain and
--- temperature are whole, as every pair's are.
+-- SPEC 10.1: the bar without rounding, which is the papers' term. Strain and temperature are whole, as every pair's are; stress and
+-- variables are fractions, each over its own denominator.
 pub record Bar : Type 0 where
   pub strain : ℤ
   pub temperature : ℤ
   pub stress : Frac
-  -- abscissa A (laws 0, 1), centre X (law 2), tension abscissa (law 3)
+  -- the abscissa A, under law 2 the centre X
   pub first : Frac
-  -- compression abscissa (law 3), else 0
+  -- under law 3 the abscissa B of compression, else 0
   pub second : Frac
 
--- "and starts as the unused rod": a rod's numbers as they are,
+-- SPEC 10.2: the numbers of a rod as they are,
 abbrev pub asBar : Rod → Bar
 asBar r =
     record {
@@ -39,41 +39,42 @@ asBar r =
       second = whole (r .second .0);
     }
 
--- those of the sheet's unused rod.
+-- and the bar at its start, with those of the sheet's unused rod.
 unfoldable pub unusedBar : Sheet → Bar
 unusedBar h = asBar (unusedOf h)
 
--- "Trial s starts from the bar's own stress": plus E times (strain change − change of thermal strain).
+-- SPEC 10.3: the trial stress of a pair, from the bar's stress and never from the rod's; what the pair adds is the same for both.
 unfoldable pub exactTrial : Sheet → Bar → Pair → Frac
 exactTrial h b p =
     b .stress +F whole (pos (h .modulus .0) *ℤ (p .change .0 -ℤ (thermalOf h (p .temperature .0) -ℤ thermalOf h (b .temperature))))
 
--- "E times plastic strain is E times (strain − thermal strain) − stress", of the bar's own numbers.
+-- SPEC 10.5: E times the bar's plastic strain, which is E times its mechanical strain less its stress.
 unfoldable pub exactPlastic : Sheet → Bar → Frac
 exactPlastic h b = whole (pos (h .modulus .0) *ℤ mechanicalOf h (b .strain) (b .temperature)) -F b .stress
 
--- "Each pair adds its change to the strain and sets the temperature"; the law says the stress and the variables.
+-- SPEC 10.3: after a pair the strain is greater by the pair's change and the temperature is the pair's; the law gives stress and variables.
 abbrev pub fed : Bar → Pair → (stress first second : Frac) → Bar
 fed b p stress first second =
     record { strain = b .strain +ℤ p .change .0; temperature = p .temperature .0; stress = stress; first = first; second = second }
 
--- A law that moves the first variable alone.
-abbrev pub fedFirst : Bar → Pair → Moved → Bar
+-- SPEC 10.4: a law without a second variable leaves it as it is.
+abbrev pub fedFirst : Bar → Pair → Solved → Bar
 fedFirst b p m = fed b p (m .stress) (m .variable) (b .second)
 
--- The radius of law 2: "the yield".
+-- SPEC 6.4: the radius of law 2 is the tension yield.
 abbrev pub radius : Sheet → Frac
 radius h = whole (pos (h .tension .«yield_stress» .0))
 
 module _ (h : Sheet) (sound : SheetSound h) where
-  -- The sheet's two sides, T not rounded.
+  -- SPEC 4.4: the sheet's two sides, T not rounded.
   abbrev pub tensionSide : Side
   tensionSide = sideOf (h .modulus .0) (sound .modulus-least) (curveOf (h .tension))
 
   abbrev pub compressionSide : Side
   compressionSide = sideOf (h .modulus .0) (sound .modulus-least) (curveOf (h .compression))
 
-  -- "The bar's own numbers say whether it flows": laws 0 and 1, law 2 and law 3, each by crate flow's exact step (flow/specs/Solution).
+  -- SPEC 10.4: a pair under laws 0 and 1, under law 2 and under law 3, each by its closed form (flow/specs/Solution) from the bar's
+  -- numbers, which also decide whether it flows.
   unfoldable pub isotropicFed : Bar → Pair → Bar
   isotropicFed b p = fedFirst b p (isotropic tensionSide (exactTrial h b p) (b .first))
 
@@ -86,17 +87,18 @@ module _ (h : Sheet) (sound : SheetSound h) where
       let m = asymmetric tensionSide compressionSide (exactTrial h b p) (b .first) (b .second) in
       fed b p (m .stress) (m .tension) (m .compression)
 
+  -- SPEC 10.4: one pair, under a law,
   abbrev pub fedUnder : Law → Bar → Pair → Bar
   fedUnder IsotropicLine b p = isotropicFed b p
   fedUnder IsotropicCurve b p = isotropicFed b p
   fedUnder Kinematic b p = kinematicFed b p
   fedUnder Asymmetric b p = asymmetricFed b p
 
-  -- One pair fed, under the sheet's law.
+  -- and under the sheet's.
   abbrev pub barStep : Bar → Pair → Bar
   barStep b p = fedUnder (h .law) b p
 
-  -- A list of pairs fed to a bar,
+  -- SPEC 10.1: pairs fed to a bar one after another,
   unfoldable pub barFrom : Bar → List Pair → Bar
   barFrom b [] = b
   barFrom b (p ∷ pairs) = barFrom (barStep b p) pairs

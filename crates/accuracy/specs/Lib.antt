@@ -1,4 +1,3 @@
 pub mod Bar
 pub mod Only
-pub mod History
 pub mod Within

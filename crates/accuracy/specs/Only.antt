@@ -1,17 +1,18 @@
--- What "Each step is the only solution of the conditions above, their roundings left out, from the bar's own numbers" asks (document 01,
--- The bar without rounding). The conditions are crate flow's, the same records as the stored rod's. Definitions only; nothing is assumed.
+-- That every step of the bar is the only one that meets its law's conditions (SPEC 10.6, 10.7), cited by Within at each stop; the
+-- conditions are the records of crate flow, to which the stored rod is held too. Definitions only; nothing is assumed.
 use mathlib.Core.Path.{_≡_}
-use lib.IntN.{ℤ, _+ℤ_}
-use Rattle.fractions.specs.Fraction.{Frac, _≈F_}
+use mathlib.Core.List.{List, [], _∷_}
+use lib.IntN.{ℤ, pos, _+ℤ_}
+use Rattle.fractions.specs.Fraction.{Frac, _≈F_, whole, _-F_}
 use Rattle.law.specs.declared.Law.{Law}
 use Rattle.law.specs.declared.Law.the-variants.{IsotropicLine, IsotropicCurve, Kinematic, Asymmetric}
 use Rattle.sheet.specs.declared.Sheet.{Sheet}
 use Rattle.sheet.specs.Sound.{SheetSound, tangentOf}
 use Rattle.pair.specs.declared.Pair.{Pair}
 use Rattle.flow.specs.Conditions as conditions
-use Rattle.accuracy.specs.Bar.{Bar, exactTrial, tensionSide, compressionSide, radius}
+use Rattle.accuracy.specs.Bar.{Bar, unusedBar, exactTrial, exactPlastic, tensionSide, compressionSide, radius, barStep}
 
--- Two bars with the same numbers; fractions are the same by cross products, whatever their denominators.
+-- SPEC 10.6: two bars with the same numbers; fractions are the same by cross products, whatever their denominators.
 pub record SameBar (b c : Bar) : Type 0 where
   pub strain : b .strain ≡ c .strain
   pub temperature : b .temperature ≡ c .temperature
@@ -20,8 +21,8 @@ pub record SameBar (b c : Bar) : Type 0 where
   pub second : b .second ≈F c .second
 
 module _ (h : Sheet) (sound : SheetSound h) where
-  -- The bar c meets the law's conditions from the trial stress and the variables of b. Under law 2, E times p grows by some fraction. A
-  -- second variable that the law does not have stays as it is.
+  -- SPEC 10.6: the bar c meets the law's conditions from the trial stress and the variables of b. Under law 2, E times p grows by some
+  -- fraction. A second variable that the law does not have stays as it is.
   abbrev pub MeetsUnder : Law → (trial : Frac) → (b c : Bar) → Type 0
   MeetsUnder IsotropicLine trial b c =
       conditions.Isotropic (tensionSide h sound) trial (b .first) (c .stress) (c .first) × (c .second ≈F b .second)
@@ -34,13 +35,24 @@ module _ (h : Sheet) (sound : SheetSound h) where
   MeetsUnder Asymmetric trial b c =
       conditions.Asymmetric (tensionSide h sound) (compressionSide h sound) trial (b .first) (b .second) (c .stress) (c .first) (c .second)
 
-  -- The bar c is a solution for the pair p from the bar b.
+  -- SPEC 10.6: the bar c is a solution for the pair p from the bar b.
   pub record Solves (b : Bar) (p : Pair) (c : Bar) : Type 0 where
     pub strain : c .strain ≡ b .strain +ℤ p .change .0
     pub temperature : c .temperature ≡ p .temperature .0
     pub law : MeetsUnder (h .law) (exactTrial h b p) b c
 
-  -- It is the only one.
+  -- SPEC 10.6, 10.7: it is the only one, and E times plastic strain changes by what the conditions took from the trial stress.
   pub record OnlySolution (b : Bar) (p : Pair) (c : Bar) : Type 0 where
     pub solves : Solves b p c
     pub only : (d : Bar) → Solves b p d → SameBar d c
+    pub plastic : (exactPlastic h c -F exactPlastic h b) ≈F (exactTrial h b p -F c .stress)
+
+  -- SPEC 10.6: each step of a bar that is fed these pairs is the only solution.
+  abbrev pub EachStepOnly : Bar → List Pair → Type 0
+  EachStepOnly b [] = Unit {0}
+  EachStepOnly b (p ∷ pairs) = OnlySolution b p (barStep h sound b p) × EachStepOnly (barStep h sound b p) pairs
+
+  -- SPEC 10.6, 10.7, the bar of a history: the unused one has no plastic strain, and each step from there on is the only solution.
+  pub record BarSolves (pairs : List Pair) : Type 0 where
+    pub starts : exactPlastic h (unusedBar h) ≈F whole (pos 0)
+    pub steps : EachStepOnly (unusedBar h) pairs

@@ -7,6 +7,7 @@ use native.Mathlib.Omega.{arith}
 use lib.ListN.{getD}
 use lib.Pow.{shr-shr, high, low}
 use Rattle.bits.specs.Field.{bit, field}
+use Rattle.bits.specs.Layout.{widthAt, offset, fieldAt}
 
 pub bit-below-two : (s : List ℕ) (k : ℕ) → bit s k < 2
 bit-below-two s k = omega arith
@@ -15,6 +16,10 @@ pub field-below : (s : List ℕ) (at w : ℕ) → field s at w < 2 ^ w
 unfolding field
 field-below s at zero = omega arith
 field-below s at (suc w) = omega (arith, field-below s at w, bit-below-two s (at + w))
+
+-- So wide is each field of a layout.
+pub field-at-below : (layout s : List ℕ) (k : ℕ) → fieldAt layout s k < 2 ^ widthAt layout k
+field-at-below layout s k = field-below s (offset layout k) (widthAt layout k)
 
 -- A field of w + v bits is the first w bits, and then the other v.
 pub field-split : (s : List ℕ) (at w v : ℕ) → field s at (w + v) ≡ field s at w * 2 ^ v + field s (at + w) v

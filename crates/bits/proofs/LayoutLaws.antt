@@ -11,7 +11,7 @@ use lib.Pow as pow
 use lib.Seq.{getD-at, take-suc, take-all}
 use lib.IntN.{ℤ}
 use Rattle.bits.specs.Field.{field, twos, bitsOf, Held}
-use Rattle.bits.specs.Layout.{Part, offset, fieldAt, filled, widths, packed, bytesOf}
+use Rattle.bits.specs.Layout.{Part, widthAt, offset, fieldAt, wholeAt, bitsAt, filled, widths, packed, bytesOf}
 use Rattle.bits.proofs.FieldLaws.{field-below, field-split, field-byte, field-inside}
 use Rattle.bits.proofs.SignLaws.{twos-of-bits, bits-of-twos}
 use Rattle.bits.proofs.PutLaws.{length-bytesOf}
@@ -132,3 +132,6 @@ whole-back n ps f all k h w z one held e = ap (twos w) (read-back n ps f all k h
 -- The whole number of a field has the field's bits, and the width holds it.
 pub whole-of-field : (s : List ℕ) (at w : ℕ) → 1 ≤ w → (bitsOf w (twos w (field s at w)) ≡ field s at w) × Held w (twos w (field s at w))
 whole-of-field s at w h = bits-of-twos w (field s at w) h (field-below s at w)
+
+pub bits-of-whole : (layout s : List ℕ) (k : ℕ) → 1 ≤ widthAt layout k → bitsAt layout k (wholeAt layout s k) ≡ fieldAt layout s k
+bits-of-whole layout s k h = whole-of-field s (offset layout k) (widthAt layout k) h .0

@@ -2,14 +2,13 @@
 use Prim.Native.Nat.{ℕ, _<_}
 use mathlib.Core.Path.{_≡_, refl, sym, ap, _∙_}
 use mathlib.Core.Option.{Option, some, none}
-use mathlib.Core.Bool.{Bool, true, false, _&&_}
+use mathlib.Core.Bool.{Bool, true, false, _&&_, cond}
 use mathlib.Core.List.{List}
 use native.Mathlib.Decide.{decLt}
 use native.Mathlib.Omega.{arith}
 use lib.IntN.{ℤ}
 use lib.Dec.{eqb, leb}
 use borrow.Author.Tests.{le-leb, lt-leb, eq-eqb, ne-eqb}
-use Rattle.refusals.specs.Table.{pick}
 use Rattle.bits.specs.declared.Unsigned.{Unsigned}
 use Rattle.bits.specs.declared.Unsigned.the-variants as Unsigned
 use Rattle.bits.specs.declared.Signed.{Signed}
@@ -32,11 +31,11 @@ pub record Answers (A R : Type 0) : Type 0 where
 
 -- A choice between the two tells its test, and the value.
 module _ {A R : Type 0} (E : Answers A R) where
-  pub told-out : (t : Bool) (x : A) → pick t (E .value x) (E .out) ≡ E .out → t ≡ false
+  pub told-out : (t : Bool) (x : A) → cond t (E .value x) (E .out) ≡ E .out → t ≡ false
   told-out true x e = absurd (some-is-not-none (sym (E .held-value x) ∙ ap (E .held) e ∙ E .held-out))
   told-out false x e = refl
 
-  pub told-in : (t : Bool) (x : A) {y : A} → pick t (E .value x) (E .out) ≡ E .value y → (t ≡ true) × (y ≡ x)
+  pub told-in : (t : Bool) (x : A) {y : A} → cond t (E .value x) (E .out) ≡ E .value y → (t ≡ true) × (y ≡ x)
   told-in true x {y} e = (refl, same-some (sym (E .held-value y) ∙ ap (E .held) (sym e) ∙ E .held-value x))
   told-in false x {y} e = absurd (some-is-not-none (sym (E .held-value y) ∙ ap (E .held) (sym e) ∙ E .held-out))
 

@@ -1,7 +1,7 @@
 -- Laws of whole numbers with a sign, as the machine holds them, and of tests between them.
 use Prim.Native.Nat.{ℕ, zero, suc, _+_, _-_, _*_, _/_, _%_, _^_, _≤_, _<_}
 use mathlib.Core.Path.{_≡_, refl, sym, ap, ap₂, _∙_}
-use mathlib.Core.Bool.{Bool, true, false, not, true≢false}
+use mathlib.Core.Bool.{Bool, true, false, not, true≢false, cond}
 use native.Mathlib.Nat.{one-mul, mod-eq-of-lt, add-mod-right}
 use native.Mathlib.Omega.{arith}
 use borrow.Author.Tests.{ltb-true, ltb-false, lt-leb, le-leb, lt-ltb, le-ltb}
@@ -12,7 +12,6 @@ use lib.Signed.{ltZ, leZ, mag}
 use mir.Facts.{toZ-ofZ}
 use mir.Syntax.{w64}
 use mir.Val.{SFits, toZ, ofZ}
-use Rattle.refusals.specs.Table.{pick}
 use Rattle.bits.specs.Field.{twos, bitsOf, Held, flag}
 
 pub minus-one-minus : (m : ℕ) → negsuc 0 -ℤ pos m ≡ negsuc m
@@ -116,7 +115,7 @@ twos-raised w x h b = by-test (ltb x (2 ^ (w - 1))) refl
     middle : ℕ
     middle = 2 ^ (w - 1)
 
-    by-test : (t : Bool) → ltb x middle ≡ t → pos ((x + middle) % (2 * middle)) -ℤ pos middle ≡ pick t (pos x) (negsuc (2 ^ w - 1 - x))
+    by-test : (t : Bool) → ltb x middle ≡ t → pos ((x + middle) % (2 * middle)) -ℤ pos middle ≡ cond t (pos x) (negsuc (2 ^ w - 1 - x))
     by-test true e =
         let whole : (x + middle) % (2 * middle) ≡ x + middle = mod-eq-of-lt (omega (arith, ltb-true x middle e)) in
         rw whole (difference-up x middle (pow-pos (w - 1)))
@@ -147,7 +146,7 @@ unfolding bitsOf twos
 bits-of-twos w x h l = by-test (ltb x (2 ^ (w - 1))) refl
   where
     stands : Bool → ℤ
-    stands t = pick t (pos x) (negsuc (2 ^ w - 1 - x))
+    stands t = cond t (pos x) (negsuc (2 ^ w - 1 - x))
 
     by-test : (t : Bool) → ltb x (2 ^ (w - 1)) ≡ t → (bitsOf w (stands t) ≡ x) × Held w (stands t)
     by-test true e = (refl, ltb-true x (2 ^ (w - 1)) e)

@@ -1,5 +1,5 @@
-// Fields of bits in bytes: their readers, and the writer of a number into a lent buffer.
-// Any bytes of any length are read: a bit past their end is 0.
+// Fields of bits in bytes (SPEC 3.1 to 3.6): their readers, and the writer of a number into a lent buffer.
+// Any bytes of any length are read: a bit behind the last byte is 0.
 ghost use mathlib.Core.Path.{_≡_};
 ghost use Prim.Native.Nat.{_+_, _-_, _*_, _^_, _≤_, _<_};
 ghost use lib.IntN.{negsuc};

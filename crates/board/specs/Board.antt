@@ -1,5 +1,7 @@
--- "Loops on the board" (document 01): the rows with *, as one table over the definition of a step. Definitions only; nothing is assumed.
+-- The board (SPEC 13.1, 13.2): nine small loops as one table over the walk of pairs, cited by proofs/BoardRight, which computes it;
+-- definitions only, nothing is assumed.
 use Prim.Native.Nat.{ℕ, _*_}
+use mathlib.Core.Path.{_≡_}
 use mathlib.Core.Bool.{Bool, true, false, _&&_}
 use mathlib.Core.List.{List, [], _∷_}
 use mathlib.Core.Option.{Option, some, none}
@@ -7,23 +9,22 @@ use lib.Dec.{eqb}
 use lib.IntN.{ℤ, pos, negℤ}
 use lib.ListN.{length}
 use lib.Signed.{leZ}
-use Rattle.refusals.specs.Table.{Answer, passes, refused, firstOf}
+use Rattle.refusals.specs.Table.{passes, firstOf}
 use Rattle.law.specs.declared.Law.{Law}
 use Rattle.law.specs.declared.Law.the-variants.{IsotropicLine, IsotropicCurve, Kinematic, Asymmetric}
 use Rattle.ranges.specs.Ranges.{grains}
 use Rattle.units.specs.Kinds.{nano, tenths, lengthOf, magnitude, modulus, expansion}
 use Rattle.curve.specs.declared.Segment.{Segment}
 use Rattle.curve.specs.declared.Side.{Side}
-use Rattle.sheet.specs.Sheets.{sevenPlaces}
+use Rattle.sheet.specs.Sheets.{sevenPlaces, sheetRefusals, sheetOf}
+use Rattle.sheet.specs.Bytes.{sheetBytes}
 use Rattle.sheet.specs.declared.Sheet.{Sheet}
-use Rattle.pair.specs.declared.Pair.{Pair}
+use Rattle.pair.specs.Pairs.{pairBytes}
 use Rattle.row.specs.declared.Row.{Row}
-use Rattle.rod.specs.declared.Rod.{Rod}
-use Rattle.rod.specs.declared.step.Advance.{Advance}
 use Rattle.rod.specs.Unused.{unusedOf}
-use Rattle.rod.specs.Steps.{stepRefusals, advanceOf}
+use Rattle.carry.specs.Walk.{rowsOf, walk}
 
--- A segment, and a side: its yield in 10⁻³ MPa and its segments.
+-- SPEC 3.9: a segment, and a side: its yield in 10⁻³ MPa and its segments.
 abbrev pub segment : (length tangent : ℕ) → Segment
 segment length tangent = record { length = lengthOf length; tangent = modulus tangent }
 
@@ -31,11 +32,11 @@ abbrev pub side : (yield : ℕ) → List Segment → Side
 side yield segments =
     record { «yield_stress» = magnitude (yield * grains); count = length segments; segments = sevenPlaces segments }
 
--- The reference temperature of the board's sheets: 20 degrees.
+-- SPEC 13.1: the reference temperature of the board's sheets, 20 degrees, which is our choice.
 abbrev pub reference : ℤ
 reference = pos 200
 
--- A sheet of the board: E, its two sides, and a 1,200.
+-- SPEC 13.1: a sheet of the board: E, its two sides, and the expansion that all of them have.
 abbrev pub sheet : Law → (E : ℕ) → (tension compression : Side) → Sheet
 sheet law E tension compression =
     record {
@@ -47,56 +48,72 @@ sheet law E tension compression =
       compression = compression;
     }
 
--- "E 200,000, yield 200,000, tangent 2,000".
+-- SPEC 13.1: the steel of rows 1 to 4 and 6: 200,000 MPa, a yield of 200 MPa in tension, one segment.
 abbrev pub steel : Law → Sheet
 steel law = sheet law 200000 (side 200000 (segment 0 2000 ∷ [])) (side 0 [])
 
--- A pair at the reference temperature.
-abbrev pub pull : ℤ → Pair
-pull change = record { change = nano change; temperature = tenths reference }
+-- SPEC 3.12: the bytes of a pair, and of one at the reference temperature.
+abbrev pub pair : (change temperature : ℤ) → List ℕ
+pair change temperature = pairBytes (record { change = nano change; temperature = tenths temperature })
 
--- What a pair must give: its stress, and whether it yielded and its tangent where document 01 says so.
+abbrev pub pull : ℤ → List ℕ
+pull change = pair change reference
+
+-- SPEC 13.1: what a pair must give: its stress, and E times plastic strain, whether it yielded and its tangent where the table fixes them.
 pub record Expected : Type 0 where
   pub stress : ℤ
+  pub plastic : Option ℤ
   pub yielded : Option Bool
   pub tangent : Option ℕ
 
+-- The stress alone,
 abbrev pub gives : ℤ → Expected
-gives stress = record { stress = stress; yielded = none; tangent = none }
+gives stress = record { stress = stress; plastic = none; yielded = none; tangent = none }
 
--- A row of the board: a sheet, the pairs from an unused rod, and what each gives.
+-- and with E times plastic strain: for the third row the papers print it, and a rod that is only heated has none.
+abbrev pub givesBoth : (stress plastic : ℤ) → Expected
+givesBoth stress plastic = record { stress = stress; plastic = some plastic; yielded = none; tangent = none }
+
+-- SPEC 13.1: a row of the board: a sheet, the pairs from an unused rod, and what each gives.
 pub record Loop : Type 0 where
   pub sheet : Sheet
-  pub pairs : List Pair
+  pub pairs : List (List ℕ)
   pub results : List Expected
 
-abbrev pub loop : Sheet → List Pair → List Expected → Loop
+abbrev pub loop : Sheet → (pairs : List (List ℕ)) → List Expected → Loop
 loop sheet pairs results = record { sheet = sheet; pairs = pairs; results = results }
 
+-- SPEC 13.1, row 9: a steel so soft that the exact stress of its pair isn't whole, and that pair.
+abbrev pub softSteel : Sheet
+softSteel = sheet IsotropicLine 3 (side 1 (segment 0 1 ∷ [])) (side 0 [])
+
+abbrev pub softPull : List ℕ
+softPull = pull (pos 333334)
+
+-- SPEC 13.1: the board, which is the papers' term, row by row.
 unfoldable pub board : List Loop
 board =
     loop (steel IsotropicLine) (pull (pos 1000000) ∷ [])
-    (record { stress = pos 200000000000; yielded = some false; tangent = none } ∷ [])
+    (record { stress = pos 200000000000; plastic = none; yielded = some false; tangent = none } ∷ [])
     ∷ loop (steel IsotropicLine) (pull (pos 1000001) ∷ [])
-    (record { stress = pos 200000002000; yielded = some true; tangent = none } ∷ [])
+    (record { stress = pos 200000002000; plastic = none; yielded = some true; tangent = none } ∷ [])
     ∷ loop (steel IsotropicLine) (pull (pos 1500000) ∷ pull (negℤ (pos 3000000)) ∷ [])
-    (gives (pos 201000000000) ∷ gives (negℤ (pos 202980000000)) ∷ [])
+    (givesBoth (pos 201000000000) (pos 99000000000) ∷ givesBoth (negℤ (pos 202980000000)) (negℤ (pos 97020000000)) ∷ [])
     ∷ loop (steel Kinematic) (pull (pos 1500000) ∷ pull (negℤ (pos 3000000)) ∷ [])
     (gives (pos 201000000000) ∷ gives (negℤ (pos 201000000000)) ∷ [])
     ∷ loop (sheet Asymmetric 200000 (side 200000 (segment 0 2000 ∷ [])) (side 250000 (segment 0 2000 ∷ [])))
     (pull (pos 1500000) ∷ pull (negℤ (pos 3000000)) ∷ [])
     (gives (pos 201000000000) ∷ gives (negℤ (pos 251490000000)) ∷ [])
-    ∷ loop (steel IsotropicLine) (record { change = nano (pos 0); temperature = tenths (pos 300) } ∷ [])
-    (gives (negℤ (pos 24000000000)) ∷ [])
+    ∷ loop (steel IsotropicLine) (pair (pos 0) (pos 300) ∷ [])
+    (givesBoth (negℤ (pos 24000000000)) (pos 0) ∷ [])
     ∷ loop (sheet IsotropicCurve 200000 (side 200000 (segment 500000 20000 ∷ segment 0 2000 ∷ [])) (side 0 [])) (pull (pos 1500000) ∷ [])
-    (record { stress = pos 210000000000; yielded = none; tangent = some 2000 } ∷ [])
+    (record { stress = pos 210000000000; plastic = none; yielded = none; tangent = some 2000 } ∷ [])
     ∷ loop (sheet IsotropicCurve 200000 (side 200000 (segment 500000 20000 ∷ segment 0 2000 ∷ [])) (side 0 [])) (pull (pos 2000000) ∷ [])
     (gives (pos 211000000000) ∷ [])
-    ∷ loop (sheet IsotropicLine 3 (side 1 (segment 0 1 ∷ [])) (side 0 [])) (pull (pos 333334) ∷ [])
-    (gives (pos 1000000) ∷ [])
+    ∷ loop softSteel (softPull ∷ []) (gives (pos 1000000) ∷ [])
     ∷ []
 
--- Whether a row is the expected one.
+-- SPEC 13.2: whether a row is the expected one; what isn't fixed isn't looked at.
 abbrev pub sameℤ : ℤ → ℤ → Bool
 sameℤ x y = leZ x y && leZ y x
 
@@ -109,25 +126,35 @@ abbrev pub yieldedAs : Option Bool → Bool → Bool
 yieldedAs none b = true
 yieldedAs (some a) b = sameBool a b
 
+abbrev pub plasticAs : Option ℤ → ℤ → Bool
+plasticAs none z = true
+plasticAs (some y) z = sameℤ y z
+
 abbrev pub tangentAs : Option ℕ → ℕ → Bool
 tangentAs none t = true
 tangentAs (some u) t = eqb u t
 
 abbrev pub rowAs : Expected → Row → Bool
-rowAs x row = sameℤ (x .stress) (row .stress .0) && yieldedAs (x .yielded) (row .yielded) && tangentAs (x .tangent) (row .tangent .0)
+rowAs x row =
+    sameℤ (x .stress) (row .stress .0)
+    && plasticAs (x .plastic) (row .plastic .0)
+    && yieldedAs (x .yielded) (row .yielded)
+    && tangentAs (x .tangent) (row .tangent .0)
 
--- The pairs carried from a rod give the expected rows, one for each, and none is refused.
-unfoldable pub rightFrom : Sheet → Rod → List Pair → List Expected → Bool
-rightFrom h rod [] [] = true
-rightFrom h rod [] (x ∷ xs) = false
-rightFrom h rod (p ∷ ps) [] = false
-rightFrom h rod (p ∷ ps) (x ∷ xs) = stepRight (firstOf (stepRefusals h rod p) (advanceOf h rod p)) x (λ next. rightFrom h next ps xs)
-  where
-    stepRight : Answer Advance → Expected → (Rod → Bool) → Bool
-    stepRight (passes a) x onward = rowAs x (a .row) && onward (a .rod)
-    stepRight (refused n) x onward = false
+abbrev pub rowsAs : List Expected → List Row → Bool
+rowsAs [] [] = true
+rowsAs [] (row ∷ rows) = false
+rowsAs (x ∷ xs) [] = false
+rowsAs (x ∷ xs) (row ∷ rows) = rowAs x row && rowsAs xs rows
 
-unfoldable pub allRight : List Loop → Bool
-unfolding rightFrom
-allRight [] = true
-allRight (l ∷ ls) = rightFrom (l .sheet) (unusedOf (l .sheet)) (l .pairs) (l .results) && allRight ls
+-- SPEC 13.2: a row of the board is right: its sheet, in bytes, passes 1 to 3 and reads back; its pairs are all accepted from the unused
+-- rod; and each gives the expected row.
+pub record LoopRight (l : Loop) : Type 0 where
+  pub sheet-passes : firstOf (sheetRefusals (sheetBytes (l .sheet))) (sheetOf (sheetBytes (l .sheet))) ≡ passes (l .sheet)
+  pub pairs-pass : walk (l .sheet) (unusedOf (l .sheet)) (l .pairs) .number ≡ 0
+  pub rows-right : rowsAs (l .results) (rowsOf (walk (l .sheet) (unusedOf (l .sheet)) (l .pairs) .advances)) ≡ true
+
+-- SPEC 13.2: all rows are.
+abbrev pub AllRight : List Loop → Type 0
+AllRight [] = Unit {0}
+AllRight (l ∷ ls) = LoopRight l × AllRight ls

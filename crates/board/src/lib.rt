@@ -1,1 +1,1 @@
-// Definitions and theorems only: document 01's loops on the board, computed on the definitions.
+// Definitions and theorems only: the board (SPEC 13), computed on the definitions.

@@ -64,7 +64,7 @@ module _ (E : ℕ) (some : 0 < E) (c : Curve) where
       let zero : a - 0 ≡ a = omega arith in
       rw (one-mul E, one-mul (c .yield), zero, mul-one E) at (is-limit (is-whole-one (pos a)))
 
-  -- "T there, rounded down": the whole limit is the floor of T.
+  -- SPEC 4.4: the whole limit is the floor of T.
   pub limit-floor : (a : ℕ) → Floor (limitF E some c (whole (pos a))) (pos (limitAt E c a))
   unfolding limitAt
   limit-floor a = floor-quotient (is-limit-whole a)

@@ -1,12 +1,12 @@
--- Document 01's rule for the tangents, from the segments of a side by their index to its curve. Assumes nothing.
+-- The rule for tangents of SPEC 3.8, from the segments of a side by their index to its curve. Assumes nothing.
 use Prim.Native.Nat.{ℕ, zero, suc, _+_, _-_, _≤_, _<_}
 use mathlib.Core.Path.{_≡_}
 use native.Mathlib.Omega.{arith}
 use lib.ListN.{length}
 use Rattle.curve.specs.declared.Side.{Side}
 use Rattle.curve.specs.Curve.{Below, Falling}
-use Rattle.curve.specs.Sides.{curveOf}
-use Rattle.curve.proofs.SegmentsFrom.{tangentOf, from, from-segment, from-last}
+use Rattle.curve.specs.Sides.{curveOf, tangentOf}
+use Rattle.curve.proofs.SegmentsFrom.{from, from-segment, from-last}
 
 module _ (E : ℕ) (side : Side) (fits : side .count ≤ length (side .segments)) where
   -- k more segments after the i-th

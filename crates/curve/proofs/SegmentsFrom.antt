@@ -8,13 +8,7 @@ use lib.ListN.{length, take, drop, getD, drop-of-length-le}
 use lib.Seq.{drop-cons, getD-take, length-take-le}
 use Rattle.curve.specs.declared.Side.{Side}
 use Rattle.curve.specs.Curve.{Segments, last, segment}
-use Rattle.curve.specs.Sides.{segmentsOf, flat}
-
-abbrev pub lengthAt : Side → ℕ → ℕ
-lengthAt side i = getD (side .segments) i flat .length .0
-
-abbrev pub tangentOf : Side → ℕ → ℕ
-tangentOf side i = getD (side .segments) i flat .tangent .0
+use Rattle.curve.specs.Sides.{segmentsOf, flat, lengthAt, tangentOf}
 
 unfoldable pub from : Side → ℕ → Segments
 from side i = segmentsOf (drop i (take (side .count) (side .segments)))

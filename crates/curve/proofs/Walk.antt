@@ -11,10 +11,10 @@ use Rattle.curve.specs.declared.Side.{Side}
 use Rattle.curve.specs.declared.Reading.{Reading}
 use Rattle.curve.specs.Curve.{rise, height, limitAt}
 use Rattle.curve.specs.Tangent.{pieces, tangentIn, tangentAt}
-use Rattle.curve.specs.Sides.{segmentsOf, curveOf, readingOf, flat, Readable}
+use Rattle.curve.specs.Sides.{segmentsOf, curveOf, readingOf, flat, Readable, lengthAt, tangentOf}
 use Rattle.curve.proofs.Rise.{rise-last, rise-zero, rise-within, rise-beyond}
 use Rattle.curve.proofs.Tangents.{tangent-below, tangent-last, tangent-within, tangent-beyond}
-use Rattle.curve.proofs.SegmentsFrom.{lengthAt, tangentOf, from, from-segment, from-last}
+use Rattle.curve.proofs.SegmentsFrom.{from, from-segment, from-last}
 
 abbrev pub yieldOf : Side → ℕ
 yieldOf side = side .«yield_stress» .0

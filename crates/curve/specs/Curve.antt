@@ -1,51 +1,51 @@
--- The curve T of one side: "The curve T starts at (yield, yield). Over abscissa E times the segment's length it rises by tangent times
--- length" (document 01, The conditions of one pair). Definitions only; nothing is assumed.
+-- The traction curve T of one side (SPEC 4.1 to 4.8), cited by Sides, Tangent, flow, response and rod; definitions only, nothing is
+-- assumed.
 use Prim.Native.Nat.{ℕ, _+_, _-_, _*_, _/_, _≤_, _<_, min}
 use native.Mathlib.Nat.{mul-pos}
 use lib.IntN.{ℤ, pos, negsuc}
 use Rattle.fractions.specs.Fraction.{Frac, _-F_}
 
--- The segments of a side in their order, each a length in nano and a tangent modulus; "the last segment of a side .. has no end".
+-- SPEC 4.1: the segments of a side in their order, each with a length in nano and a tangent modulus. The last one goes on without end.
 pub data Segments : Type 0 where
   last : (tangent : ℕ) → Segments
   segment : (length tangent : ℕ) → Segments → Segments
 
--- One side: its yield in grains, and its segments.
+-- SPEC 4.1: one side, its yield in grains and its segments.
 pub record Curve : Type 0 where
   pub yield : ℕ
   pub segments : Segments
 
--- "Each tangent modulus is .. below E" ..
+-- SPEC 3.8: every tangent modulus lies below E,
 abbrev pub Below : ℕ → Segments → Type 0
 Below E (last t) = t < E
 Below E (segment length t rest) = (t < E) × Below E rest
 
--- .. "and not above that of the segment before it on its side"; `most` is what stands before the first, E.
+-- and none above its predecessor's; `most` stands before the first one and is E.
 abbrev pub Falling : ℕ → Segments → Type 0
 Falling most (last t) = t ≤ most
 Falling most (segment length t rest) = (t ≤ most) × Falling t rest
 
--- E times the rise over the first x of abscissa from where the segments start. A segment takes w times its length of the abscissa, where w
--- is E in the unit in which x is counted, and rises by t / E over each unit; what x has beyond it falls to the segments after it.
+-- SPEC 4.4, the sum: E times the rise over the first x of abscissa from where the segments start. A segment takes w times its length of the
+-- abscissa, w being E in the unit that x is counted in, and each unit of that adds t; what x has beyond it goes to the segments behind it.
 unfoldable pub rise : (w : ℕ) → Segments → ℕ → ℕ
 rise w (last t) x = t * x
 rise w (segment length t rest) x = t * min x (w * length) + rise w rest (x - w * length)
 
--- E times T at the abscissa a, where the yield is y: y and the rise past it. 01 gives T no meaning below the yield; here it is the abscissa
--- itself, the elastic line, so that T is concave from 0 on.
+-- SPEC 4.4: E times T at the abscissa a, y being the yield: E times the lesser of a and y, and the rise past y. So below the yield, where
+-- the papers give T no meaning, T is the abscissa itself (SPEC 4.8): the elastic line, which makes T concave from 0 on.
 unfoldable pub height : (E w y : ℕ) → Segments → ℕ → ℕ
 height E w y segments a = E * min a y + rise w segments (a - y)
 
--- T at a whole abscissa, "rounded down".
+-- SPEC 4.4: T at a whole abscissa, rounded down.
 unfoldable pub limitAt : (E : ℕ) → Curve → ℕ → ℕ
 limitAt E c a = height E E (c .yield) (c .segments) a / E
 
--- No abscissa is below 0.
+-- SPEC 4.8: a negative abscissa counts as 0.
 abbrev pub abscissaOf : ℤ → ℕ
 abscissaOf (pos n) = n
 abscissaOf (negsuc n) = 0
 
--- T at a fraction, not rounded. Counted in units of 1 / d, d the denominator, the yield is d y, and a segment takes d E for each nano.
+-- SPEC 4.4: T at a fraction, not rounded. In units of 1 / d, d the denominator, the yield is d y, and a segment takes d E for each nano.
 unfoldable pub limitF : (E : ℕ) → 0 < E → Curve → Frac → Frac
 limitF E some c x =
     record {
@@ -54,6 +54,6 @@ limitF E some c x =
       den-pos = mul-pos some (x .den-pos);
     }
 
--- "The abscissa is A = R + E p (R the yield limit, p accumulated plastic strain), so R = T(A)": E times p is A - T(A).
+-- SPEC 4.7: E times accumulated plastic strain, which is what the abscissa has beyond its yield limit.
 abbrev pub plasticF : (E : ℕ) → 0 < E → Curve → Frac → Frac
 plasticF E some c x = x -F limitF E some c x

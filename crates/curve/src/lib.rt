@@ -1,4 +1,4 @@
-// One side of the traction curve: the yield limit T, read at an abscissa.
+// One side of the traction curve (SPEC 4): the yield limit T, read at an abscissa.
 use units::Length;
 use units::Magnitude;
 use units::Modulus;
@@ -7,20 +7,20 @@ ghost use Prim.Native.Nat.{_+_, _*_, _/_, _^_, _≤_, _<_};
 ghost use Rattle.units.specs.Kinds.{magnitude};
 ghost use Rattle.curve.specs.Sides.{Readable, readingOf};
 
-// A straight part of the curve. The last segment of a side has no end; its length is 0.
+// A straight part of the curve (SPEC 3.8). The last segment of a side has no end; its length is 0.
 pub struct Segment {
     pub length: Length,
     pub tangent: Modulus,
 }
 
-// One side of the curve, tension or compression: the yield stress, and `count` segments of the seven.
+// One side of the curve, tension or compression: the yield stress, and `count` segments of the seven (SPEC 3.9).
 pub struct Side {
     pub yield_stress: Magnitude,
     pub count: usize,
     pub segments: [Segment; 7],
 }
 
-// What the curve says at an abscissa: the yield limit, rounded down, and the tangent modulus.
+// What the curve says at an abscissa (SPEC 4.10): the yield limit, rounded down, and the tangent modulus.
 pub struct Reading {
     pub limit: Magnitude,
     pub tangent: Modulus,

@@ -1,131 +1,62 @@
--- The pairs that a call accepted, from a sheet and a state that pass 1 to 6: each of them passes from the state that those before it left, a
--- run of the first of them hands that state back, and the call wrote their rows.
-use Prim.Native.Nat.{ℕ, zero, suc, _*_, _/_, _%_, _≤_, _<_}
+-- The pairs that a call accepted (SPEC 11.3, 11.6), from a sheet and a state that pass 1 to 6: the first j of them are a history, a run of
+-- them hands its last state back, and the call wrote their rows.
+use Prim.Native.Nat.{ℕ, suc, _+_, _*_, _/_, _%_, _≤_, _<_}
 use mathlib.Core.Path.{_≡_, refl, sym, ap, subst, _∙_}
-use mathlib.Core.Bool.{Bool, true, false, not, _||_}
-use mathlib.Core.List.{List, [], _∷_, _++_, append-assoc}
+use mathlib.Core.Bool.{Bool, true, false, not, _||_, cond}
+use mathlib.Core.List.{List, [], _∷_, _++_, map, append-assoc}
 use mathlib.Core.Logic.{_⊎_, inl, inr}
 use native.Mathlib.Nat.{mul-div-right, mul-div-le, mul-mod-right}
 use native.Mathlib.Omega.{arith}
-use borrow.Author.Tests.{eqb-true, eq-eqb, ltb-false, le-ltb, not-false}
-use lib.Dec.{eqb, leb, ltb}
-use lib.ListN.{length, take, drop, replicate, length-replicate}
-use lib.Seq.{length-take-le, take-at, drop-at}
-use Rattle.refusals.specs.Table.{refusal, passes, refused, firstOf, pick, NoneApplies, Given}
-use Rattle.refusals.proofs.FirstLaws.{goes-on, neither-holds, none-passes, passes-none-applies, none-split, none-join, given-refused, decides, answer-number}
+use borrow.Author.Tests.{eq-eqb, le-ltb}
+use lib.Dec.{eqb, ltb}
+use lib.ListN.{length, take, drop, replicate, length-replicate, take-append-drop}
+use lib.Seq.{length-take-le}
+use Rattle.refusals.specs.Table.{refused, passes, firstOf, NoneApplies, Given}
+use Rattle.refusals.proofs.FirstLaws.{goes-on, none-passes, passes-none-applies, none-split, given-refused, decides, answer-number}
 use Rattle.ranges.specs.Ranges.{mostPairs}
-use Rattle.bits.specs.Field.{within}
-use Rattle.pair.specs.Pairs.{pairOf, pairLength, listRefusals}
-use Rattle.row.specs.Rows.{rowOf, rowBytes, rowLength}
-use Rattle.row.proofs.RowLaws.{row-back}
+use Rattle.pair.specs.Pairs.{pairLength, listRefusals}
+use Rattle.row.specs.declared.Row.{Row}
+use Rattle.row.specs.Rows.{rowOf, rowLength}
 use Rattle.sheet.specs.declared.Sheet.{Sheet}
 use Rattle.sheet.specs.Sheets.{sheetOf, sheetRefusals}
 use Rattle.rod.specs.declared.Rod.{Rod}
-use Rattle.rod.specs.States.{stateOf, stateBytes, stateLength, stateRefusals}
+use Rattle.rod.specs.declared.step.Advance.{Advance}
+use Rattle.state.specs.States.{stateOf, stateBytes, stateLength, stateRefusals}
 use Rattle.rod.specs.Against.{againstRefusals}
-use Rattle.rod.specs.Steps.{advanceOf}
-use Rattle.rod.specs.Kept.{StatePasses}
-use Rattle.rod.proofs.Kept.{accepted-state-passes}
-use Rattle.rod.proofs.RoundTrip.{rod-back}
-use Rattle.tie_rod.specs.Calls.{Left, readyOf, standingRefusals, bufferRefusals, handed, leftBy}
-use Rattle.tie_rod.proofs.PairAnswers.{next-passes}
-use Rattle.tie_rod.proofs.WalkLaws.{length-row}
-use Rattle.tie_rod.proofs.CallLaws.{standing-accepted}
-use Rattle.demands.specs.Lists.{Call, pieces, acceptedBy, callLeaves, stateAfter, acceptedIn, stateIn}
-use Rattle.demands.specs.Demands.{pieceAt, pairCount, listLine, callTable, pairTable, AllPass, rodPast, rowsPast, Written}
-use Rattle.demands.proofs.Pieces.{pieces-within, piece-next}
-use Rattle.demands.proofs.Walks.{pair-answer-none, pair-numbers, Ends, ends}
-use Rattle.demands.proofs.Demand1.{when-given, when-all, when-until, next-long, accepted-all, accepted-until, written-to}
-
--- The tests for 7 and 12.
-abbrev wrongList : (pairs : ℕ) → Bool
-wrongList pairs = not (eqb (pairs % pairLength) 0) || ltb mostPairs (pairs / pairLength)
-
-abbrev wrongBuffers : (pairs rows next : ℕ) → Bool
-wrongBuffers pairs rows next = ltb rows (rowLength * (pairs / pairLength)) || not (eqb next stateLength)
+use Rattle.state.specs.Passing.{StatePasses}
+use Rattle.state.proofs.Passing.{accepted-state-passes}
+use Rattle.state.proofs.RoundTrip.{rod-back}
+use Rattle.carry.specs.Walk.{lastRod, rowsOf, rowsBytes, History}
+use Rattle.carry.proofs.Histories.{rows-append, bytes-append, history-prefix}
+use Rattle.judge.specs.Standing.{readyOf, standingRefusals}
+use Rattle.judge.proofs.JudgeLaws.{standing-accepted}
+use Rattle.tie_rod.specs.Calls.{Kind, single, run, Call, call, pieces, countIn, pairsIn, bufferRefusals, lengthRefusals, callRefusals, Left, handed, stopped, callLeaves}
+use Rattle.tie_rod.proofs.PieceLaws.{length-pieces, pieces-within}
+use Rattle.tie_rod.proofs.CallLaws.{lengths-pass}
+use Rattle.demands.specs.Lists.{stateAfter, acceptedIn, stateIn}
+use Rattle.demands.proofs.Splits.{take-pieces, history-passes, rows-back}
+use Rattle.demands.proofs.Demand1.{when-call, when-all, accepted-most, accepted-none, accepts, next-long, written-as, pairs-leave}
 
 -- A list of j pairs, with room for j rows and a state, meets neither 7 nor 12.
-enough-room : (j : ℕ) (next : ℕ) → j ≤ mostPairs → eqb next stateLength ≡ true
-    → (wrongList (pairLength * j) ≡ false) × (wrongBuffers (pairLength * j) (rowLength * j) next ≡ false)
-enough-room j next few long =
+roomy-run : (j pairs rows next : ℕ) → j ≤ mostPairs → pairs ≡ pairLength * j → rows ≡ rowLength * j → next ≡ stateLength → NoneApplies (lengthRefusals run pairs rows next)
+unfolding lengthRefusals listRefusals bufferRefusals
+roomy-run j pairs rows next few p q n =
     let count : pairLength * j / pairLength ≡ j = mul-div-right j (omega arith) in
     let whole : pairLength * j % pairLength ≡ 0 = mul-mod-right pairLength j in
-    (rw (whole, count, le-ltb mostPairs j few), rw (count, le-ltb (rowLength * j) (rowLength * j) (omega arith), long))
+    rw (p, q, n, count, whole, le-ltb mostPairs j few, le-ltb (rowLength * j) (rowLength * j) (omega arith)) (refl, (refl, tt))
 
--- With these bytes the sheet meets none of 1 to 6, whatever value is asked for.
+-- With these bytes the sheet meets none of 1 to 6.
 pub standing-passes : (sheet : List ℕ) → firstOf (sheetRefusals sheet) (sheetOf sheet) ≡ passes (sheetOf sheet)
-    → (r : Rod) → StatePasses (sheetOf sheet) r → {A : Type 0} (v : A) → firstOf (standingRefusals sheet (stateBytes r)) v ≡ passes v
+    → (r : Rod) → StatePasses (sheetOf sheet) r → NoneApplies (standingRefusals sheet (stateBytes r))
 unfolding standingRefusals againstRefusals firstOf
-standing-passes sheet passed r p v =
+standing-passes sheet passed r p =
     let h = sheetOf sheet in
     let state = stateBytes r in
     let against = againstRefusals h (stateOf state) in
-    goes-on (sheetRefusals sheet) (stateRefusals state ++ against) h v passed
-    ∙ goes-on (stateRefusals state) against (stateOf state) v (p .reads-back)
-    ∙ ap (λ (x : Rod). firstOf (againstRefusals h x) v) (rod-back r (p .fits)) ∙ goes-on (againstRefusals h r) [] r v (p .against)
-
--- ---- Pairs that all pass
-
-module _ (h : Sheet) where
-  -- The first of them do,
-  first-pass : (j m : ℕ) (r : Rod) (bytes : List ℕ) → j ≤ m → AllPass h r (pieces pairLength m bytes) → AllPass h r (pieces pairLength j bytes)
-  unfolding pieces
-  first-pass zero m r bytes few all = tt
-  first-pass (suc j) zero r bytes few all = absurd (omega arith)
-  first-pass (suc j) (suc m) r bytes few (none, all) =
-      (none, first-pass j m (advanceOf h r (pairOf (take pairLength bytes)) .rod) (drop pairLength bytes) (omega arith) all)
-
-  -- so does the one behind them,
-  next-pass : (j : ℕ) (r : Rod) (bytes : List ℕ) → AllPass h r (pieces pairLength (suc j) bytes)
-      → NoneApplies (pairTable h (rodPast h r (pieces pairLength j bytes)) (pieceAt pairLength j bytes))
-  unfolding pieces rodPast
-  next-pass zero r bytes (none, all) = none
-  next-pass (suc j) r bytes (none, all) =
-      let next = advanceOf h r (pairOf (take pairLength bytes)) .rod in
-      let others = drop pairLength bytes in
-      subst (λ (l : List ℕ). NoneApplies (pairTable h (rodPast h next (pieces pairLength j others)) l)) (piece-next pairLength j bytes)
-      (next-pass j next others all)
-
-  -- which leaves the next state
-  pub rod-next : (j : ℕ) (r : Rod) (bytes : List ℕ)
-      → rodPast h r (pieces pairLength (suc j) bytes)
-      ≡ advanceOf h (rodPast h r (pieces pairLength j bytes)) (pairOf (pieceAt pairLength j bytes)) .rod
-  unfolding pieces rodPast
-  rod-next zero r bytes = refl
-  rod-next (suc j) r bytes =
-      let next = advanceOf h r (pairOf (take pairLength bytes)) .rod in
-      let others = drop pairLength bytes in
-      rod-next j next others
-      ∙ ap (λ (l : List ℕ). advanceOf h (rodPast h next (pieces pairLength j others)) (pairOf l) .rod) (piece-next pairLength j bytes)
-
-  -- and its own row.
-  row-at : (j m : ℕ) (r : Rod) (bytes behind : List ℕ) → j < m
-      → pieceAt rowLength j (rowsPast h r (pieces pairLength m bytes) ++ behind)
-      ≡ rowBytes (advanceOf h (rodPast h r (pieces pairLength j bytes)) (pairOf (pieceAt pairLength j bytes)) .row)
-  unfolding pieces rodPast rowsPast
-  row-at j zero r bytes behind few = absurd (omega arith)
-  row-at zero (suc m) r bytes behind few =
-      let a = advanceOf h r (pairOf (take pairLength bytes)) in
-      let rest = rowsPast h (a .rod) (pieces pairLength m (drop pairLength bytes)) in
-      ap (take rowLength) (append-assoc (rowBytes (a .row)) rest behind) ∙ take-at (rowBytes (a .row)) (rest ++ behind) rowLength (length-row (a .row))
-  row-at (suc j) (suc m) r bytes behind few =
-      let a = advanceOf h r (pairOf (take pairLength bytes)) in
-      let others = drop pairLength bytes in
-      let rest = rowsPast h (a .rod) (pieces pairLength m others) in
-      sym (piece-next rowLength j (rowBytes (a .row) ++ rest ++ behind))
-      ∙ ap (λ (l : List ℕ). pieceAt rowLength j (drop rowLength l)) (append-assoc (rowBytes (a .row)) rest behind)
-      ∙ ap (pieceAt rowLength j) (drop-at (rowBytes (a .row)) (rest ++ behind) rowLength (length-row (a .row)))
-      ∙ row-at j m (a .rod) others behind (omega arith)
-      ∙ ap (λ (l : List ℕ). rowBytes (advanceOf h (rodPast h (a .rod) (pieces pairLength j others)) (pairOf l) .row)) (piece-next pairLength j bytes)
-
-  -- Every state on the way passes.
-  past-passes : (r : Rod) (items : List (List ℕ)) → StatePasses h r → AllPass h r items → StatePasses h (rodPast h r items)
-  unfolding rodPast
-  past-passes r [] p all = p
-  past-passes r (pair ∷ items) p (none, all) =
-      past-passes (advanceOf h r (pairOf pair) .rod) items (next-passes pair (p .accepted) (pair-answer-none h r pair none) .0) all
-
--- ---- The pairs that a call accepted
+    passes-none-applies (sheetRefusals sheet ++ (stateRefusals state ++ against)) r
+    (goes-on (sheetRefusals sheet) (stateRefusals state ++ against) h r passed
+    ∙ goes-on (stateRefusals state) against (stateOf state) r (p .reads-back)
+    ∙ ap (λ (x : Rod). firstOf (againstRefusals h x) r) (rod-back r (p .fits)) ∙ goes-on (againstRefusals h r) [] r r (p .against))
 
 module _ (sheet state : List ℕ) (standing : NoneApplies (standingRefusals sheet state)) where
   abbrev h : Sheet
@@ -139,201 +70,162 @@ module _ (sheet state : List ℕ) (standing : NoneApplies (standingRefusals shee
       accepted-state-passes h r (standing-accepted sheet state (none-passes (standingRefusals sheet state) (readyOf sheet state) standing) .1)
 
   module _ (c : Call) where
-    -- They all pass, and there are no more of them than a list may have.
-    pub record Passing (m : ℕ) : Type 0 where
-      pub all : AllPass h r (pieces pairLength m (c .pairs))
-      pub few : m ≤ mostPairs
-      pub there : pairLength * m ≤ length (c .pairs)
-
-    list-few : NoneApplies (callTable sheet state c) → pairCount c ≤ mostPairs
-    unfolding callTable listRefusals
-    list-few none =
-        let buffers = bufferRefusals (pairCount c) (length (c .rows)) (length (c .next)) in
-        let behind = none-split (standingRefusals sheet state) (listLine c ++ buffers) none .1 in
-        by-kind (c .single) (none-split (listLine c) buffers behind .0)
-      where
-        by-kind : (b : Bool) → NoneApplies (pick b (refusal 7 (not (eqb (length (c .pairs)) pairLength)) ∷ []) (listRefusals (length (c .pairs))))
-            → pairCount c ≤ mostPairs
-        by-kind true (seven, none) =
-            let six = eqb-true (length (c .pairs)) pairLength (not-false _ seven) in
-            rw six (omega arith)
-        by-kind false (seven, none) =
-            ltb-false mostPairs (pairCount c) (neither-holds (not (eqb (length (c .pairs) % pairLength) 0)) (ltb mostPairs (pairCount c)) seven .1)
-
-    passing-to : (m : ℕ) → NoneApplies (callTable sheet state c) → m ≤ pairCount c → AllPass h r (pieces pairLength m (c .pairs)) → Passing m
-    passing-to m none few all =
-        record { all = all; few = omega (arith, few, list-few none); there = omega (arith, few, mul-div-le (length (c .pairs)) pairLength) }
-
-    -- A number given before the pairs is 7 or 12.
-    abbrev Late : ℕ → Type 0
-    Late n = (eqb n 0 ≡ false) × (within 8 11 n ≡ false) × (leb n 6 ≡ false) × (within 1 6 n ≡ false)
-
-    late : {n : ℕ} → Given (callTable sheet state c) n → Late n
-    unfolding callTable listRefusals bufferRefusals
-    late {n} g =
-        let behind = listLine c ++ bufferRefusals (pairCount c) (length (c .rows)) (length (c .next)) in
-        by-kind (c .single)
-        (sym (goes-on (standingRefusals sheet state) behind r r (none-passes (standingRefusals sheet state) r standing))
-        ∙ given-refused (callTable sheet state c) r g)
-      where
-        by-kind : (b : Bool)
-            → firstOf (pick b (refusal 7 (not (eqb (length (c .pairs)) pairLength)) ∷ []) (listRefusals (length (c .pairs)))
-            ++ bufferRefusals (pairCount c) (length (c .rows)) (length (c .next))) r ≡ refused n
-            → Late n
-        by-kind true e = answer-number Late _ r ((refl, refl, refl, refl), ((refl, refl, refl, refl), tt)) e
-        by-kind false e = answer-number Late _ r ((refl, refl, refl, refl), ((refl, refl, refl, refl), tt)) e
-
-    -- Such a call accepts no pair.
-    accepted-none : {n : ℕ} → Given (callTable sheet state c) n → acceptedIn sheet state c ≡ 0
-    unfolding acceptedIn acceptedBy leftBy
-    accepted-none {n} g =
-        let (some, early, past, standing) = late g in
-        ap (λ (l : Left). acceptedBy (l .reply .number) (l .reply .place) (pairCount c)) (when-given sheet state c g) ∙ rw (some, early)
-
-    -- What a call that accepted m pairs wrote for them, and the state that it handed on.
-    pub record Wrote (m : ℕ) : Type 0 where
-      pub passing : Passing m
-      pub none-standing : within 1 6 (callLeaves sheet state c .reply .number) ≡ false
-      pub behind : List ℕ
-      pub rows : callLeaves sheet state c .rows ≡ rowsPast h r (pieces pairLength m (c .pairs)) ++ behind
-      pub after : stateOf (stateAfter sheet state c) ≡ rodPast h r (pieces pairLength m (c .pairs))
-      pub after-bytes : state ≡ stateBytes r → stateAfter sheet state c ≡ stateBytes (rodPast h r (pieces pairLength m (c .pairs)))
-
-    wrote-some : (m : ℕ) → NoneApplies (callTable sheet state c) → within 1 6 (callLeaves sheet state c .reply .number) ≡ false → Passing m
-        → Written h r c m (callLeaves sheet state c) → Wrote m
-    unfolding stateAfter
-    wrote-some m none early passing w =
-        let long = eq-eqb (length (c .next)) stateLength (next-long sheet state c none) in
-        let last = past-passes h r (pieces pairLength m (c .pairs)) rod-passes (passing .all) in
-        record {
-          passing = passing;
-          none-standing = early;
-          behind = drop (rowLength * m) (c .rows);
-          rows = w .rows;
-          after = rw long (ap stateOf (w .next) ∙ rod-back _ (last .fits));
-          after-bytes = λ own. rw long (w .next);
-        }
-
-    -- One that accepted none hands the old state on.
-    after-none : {n : ℕ} → Given (callTable sheet state c) n → stateAfter sheet state c ≡ state
-    unfolding stateAfter leftBy handed
-    after-none {n} g =
-        let (some, early, past, standing) = late g in
-        ap (λ (l : Left). pick (eqb (length (c .next)) stateLength) (l .next) state) (when-given sheet state c g)
-        ∙ rw past (by-length (eqb (length (c .next)) stateLength))
-      where
-        by-length : (b : Bool) → pick b (pick b state (c .next)) state ≡ state
-        by-length true = refl
-        by-length false = refl
-
-    wrote-none : {n : ℕ} → Given (callTable sheet state c) n → Wrote 0
-    unfolding pieces rodPast rowsPast leftBy
-    wrote-none {n} g =
-        let (some, walked, past, early) = late g in
-        let number = ap (λ (l : Left). within 1 6 (l .reply .number)) (when-given sheet state c g) in
-        record {
-          passing = record { all = tt; few = omega arith; there = omega arith };
-          none-standing = number ∙ early;
-          behind = c .rows;
-          rows = ap (λ (l : Left). l .rows) (when-given sheet state c g);
-          after = ap stateOf (after-none g);
-          after-bytes = λ own. after-none g ∙ own;
-        }
-
-    pub wrote : Wrote (acceptedIn sheet state c)
-    wrote = by-decision (decides (callTable sheet state c))
-      where
-        by-end : NoneApplies (callTable sheet state c) → Ends h (pairCount c) r (c .pairs) → Wrote (acceptedIn sheet state c)
-        by-end none (inl all) =
-            let e = when-all sheet state c none all in
-            subst Wrote (sym (accepted-all sheet state c e))
-            (wrote-some (pairCount c) none (ap (λ (l : Left). within 1 6 (l .reply .number)) e) (passing-to (pairCount c) none (omega arith) all) (written-to sheet state c (pairCount c) none e))
-        by-end none (inr (m, n, few, p)) =
-            let e = when-until sheet state c m none few p in
-            let early = pair-numbers h (rodPast h r (pieces pairLength m (c .pairs))) (pieceAt pairLength m (c .pairs)) (p .given) .2 in
-            subst Wrote (sym (accepted-until sheet state c m p e))
-            (wrote-some m none (ap (λ (l : Left). within 1 6 (l .reply .number)) e ∙ early) (passing-to m none (omega arith) (p .each)) (written-to sheet state c m none e))
-
-        by-decision : ((n : ℕ) × Given (callTable sheet state c) n) ⊎ NoneApplies (callTable sheet state c) → Wrote (acceptedIn sheet state c)
-        by-decision (inl (n, g)) = subst Wrote (sym (accepted-none g)) (wrote-none g)
-        by-decision (inr none) = by-end none (ends h (pairCount c) r (c .pairs))
-
-    -- ---- A run of the first of them
-
-    abbrev firstOnly : (j : ℕ) → Call
-    firstOnly j =
-        record { single = false; pairs = take (pairLength * j) (c .pairs); rows = replicate (rowLength * j) 0; next = replicate stateLength 0 }
-
-    module _ (j : ℕ) (passing : Passing j) where
-      abbrev first : List ℕ
-      first = take (pairLength * j) (c .pairs)
-
-      first-long : length first ≡ pairLength * j
-      first-long = length-take-le (pairLength * j) (c .pairs) (passing .there)
-
-      first-count : length first / pairLength ≡ j
-      first-count = ap (λ (n : ℕ). n / pairLength) first-long ∙ mul-div-right j (omega arith)
-
-      first-table : NoneApplies (callTable sheet state (firstOnly j))
-      unfolding callTable listRefusals bufferRefusals
-      first-table =
-          let (seven, twelve) = enough-room j stateLength (passing .few) refl in
-          let list : wrongList (length first) ≡ false = ap wrongList first-long ∙ seven in
-          let room : wrongBuffers (length first) (length {A = ℕ} (replicate (rowLength * j) 0)) stateLength ≡ false =
-          (λ i. wrongBuffers (first-long i) (length-replicate {A = ℕ} (rowLength * j) 0 i) stateLength) ∙ twelve in
-          none-join (standingRefusals sheet state) _ standing (list, (room, tt))
-
-      first-items : pieces pairLength (pairCount (firstOnly j)) first ≡ pieces pairLength j (c .pairs)
-      first-items = ap (λ (n : ℕ). pieces pairLength n first) first-count ∙ pieces-within pairLength j (c .pairs) (passing .there)
-
-      pub state-past : stateIn sheet state c j ≡ stateBytes (rodPast h r (pieces pairLength j (c .pairs)))
-      unfolding stateIn callLeaves
-      state-past =
-          let all = subst (AllPass h r) (sym first-items) (passing .all) in
-          let e = when-all sheet state (firstOnly j) first-table all in
-          written-to sheet state (firstOnly j) (pairCount (firstOnly j)) first-table e .next
-          ∙ ap (λ (l : List (List ℕ)). stateBytes (rodPast h r l)) first-items
-
-      pub past-fine : StatePasses h (rodPast h r (pieces pairLength j (c .pairs)))
-      past-fine = past-passes h r (pieces pairLength j (c .pairs)) rod-passes (passing .all)
-
-      pub rod-in : stateOf (stateIn sheet state c j) ≡ rodPast h r (pieces pairLength j (c .pairs))
-      rod-in = ap stateOf state-past ∙ rod-back _ (past-fine .fits)
-
-    -- ---- Each pair
+    abbrev leaves : Left
+    leaves = callLeaves sheet state c
 
     abbrev accepted : ℕ
     accepted = acceptedIn sheet state c
 
-    pub passing-at : (j : ℕ) → j ≤ accepted → Passing j
-    passing-at j few =
-        let p = wrote .passing in
+    -- ---- All accepted pairs
+
+    -- They are a history, there are no more of them than a list may have, and the call wrote their rows and handed their state on.
+    record Wrote (m : ℕ) : Type 0 where
+      few : m ≤ mostPairs
+      there : pairLength * m ≤ length (c .pairs)
+      advances : List Advance
+      history : History h r (pieces pairLength m (c .pairs)) advances
+      behind : List ℕ
+      rows : leaves .rows ≡ rowsBytes (rowsOf advances) ++ behind
+      after : state ≡ stateBytes r → stateAfter sheet state c ≡ stateBytes (lastRod r advances)
+      after-rod : stateOf (stateAfter sheet state c) ≡ lastRod r advances
+
+    -- A call refused itself accepts none, and hands the old state on.
+    call-number : {n : ℕ} → Given (callRefusals c) n → n ≡ 0 → ⊥
+    unfolding lengthRefusals listRefusals bufferRefusals
+    call-number g = by-kind (c .kind) (given-refused (callRefusals c) c g)
+      where
+        by-kind : (k : Kind) {n : ℕ} → firstOf (lengthRefusals k (length (c .pairs)) (length (c .rows)) (length (c .next))) c ≡ refused n → n ≡ 0 → ⊥
+        by-kind single e = answer-number (λ (n : ℕ). n ≡ 0 → ⊥) (lengthRefusals single (length (c .pairs)) (length (c .rows)) (length (c .next))) c ((λ z. omega (arith, z)), ((λ z. omega (arith, z)), tt)) e
+        by-kind run e = answer-number (λ (n : ℕ). n ≡ 0 → ⊥) (lengthRefusals run (length (c .pairs)) (length (c .rows)) (length (c .next))) c ((λ z. omega (arith, z)), ((λ z. omega (arith, z)), tt)) e
+
+    old-handed-on : {n : ℕ} → Given (callRefusals c) n → stateAfter sheet state c ≡ state
+    unfolding stateAfter handed
+    old-handed-on g =
+        ap (λ (l : Left). cond (eqb (length (c .next)) stateLength) (l .next) state) (when-call sheet state c standing g)
+        ∙ by-length (eqb (length (c .next)) stateLength)
+      where
+        by-length : (b : Bool) → cond b (cond b state (c .next)) state ≡ state
+        by-length true = refl
+        by-length false = refl
+
+    wrote-none : {n : ℕ} → Given (callRefusals c) n → Wrote 0
+    unfolding pieces lastRod rowsBytes
+    wrote-none g =
         record {
-          all = first-pass h j accepted r (c .pairs) few (p .all);
-          few = omega (arith, few, p .few);
-          there = omega (arith, few, p .there);
+          few = omega arith;
+          there = omega arith;
+          advances = [];
+          history = tt;
+          behind = c .rows;
+          rows = ap (λ (l : Left). l .rows) (when-call sheet state c standing g);
+          after = λ own. old-handed-on g ∙ own;
+          after-rod = ap stateOf (old-handed-on g);
         }
 
-    pair-passes : (j : ℕ) → j < accepted → NoneApplies (pairTable h (rodPast h r (pieces pairLength j (c .pairs))) (pieceAt pairLength j (c .pairs)))
-    pair-passes j few = next-pass h j r (c .pairs) (passing-at (suc j) few .all)
+    wrote-some : NoneApplies (callRefusals c) → Wrote accepted
+    unfolding stateAfter
+    wrote-some own =
+        let a = accepts sheet state c standing own in
+        let w = pairs-leave sheet state c a in
+        let roomy = lengths-pass (c .kind) (length (c .pairs)) (length (c .rows)) (length (c .next)) c (none-passes (callRefusals c) c own) in
+        let most : accepted ≤ countIn (c .pairs) = accepted-most sheet state c standing own in
+        let long = eq-eqb (length (c .next)) stateLength (next-long sheet state c own) in
+        let last = history-passes h r (pieces pairLength accepted (c .pairs)) (a .advances) rod-passes (a .history) in
+        record {
+          few = omega (arith, most, roomy .few);
+          there = omega (arith, most, mul-div-le (length (c .pairs)) pairLength);
+          advances = a .advances;
+          history = a .history;
+          behind = drop (rowLength * accepted) (c .rows);
+          rows = w .rows;
+          after = λ is. rw long (w .next);
+          after-rod = rw long (ap stateOf (w .next) ∙ rod-back (lastRod r (a .advances)) (last .fits));
+        }
 
-    -- The row that the call wrote for it is read back.
-    pub row-in : (j : ℕ) → j < accepted
-        → rowOf (pieceAt rowLength j (callLeaves sheet state c .rows))
-        ≡ advanceOf h (rodPast h r (pieces pairLength j (c .pairs))) (pairOf (pieceAt pairLength j (c .pairs))) .row
-    row-in j few =
-        let q = rodPast h r (pieces pairLength j (c .pairs)) in
-        let pair = pieceAt pairLength j (c .pairs) in
-        let before = past-fine j (passing-at j (omega arith)) in
-        let fits = next-passes pair (before .accepted) (pair-answer-none h q pair (pair-passes j few)) .1 in
-        ap (λ (l : List ℕ). rowOf (pieceAt rowLength j l)) (wrote .rows)
-        ∙ ap rowOf (row-at h j accepted r (c .pairs) (wrote .behind) few) ∙ row-back (advanceOf h q (pairOf pair) .row) fits
+    wrote : Wrote accepted
+    wrote = by-call (decides (callRefusals c))
+      where
+        by-call : ((n : ℕ) × Given (callRefusals c) n) ⊎ NoneApplies (callRefusals c) → Wrote accepted
+        by-call (inl (n, g)) = subst Wrote (sym (accepted-none sheet state c state (call-number g) (when-call sheet state c standing g))) (wrote-none g)
+        by-call (inr own) = wrote-some own
+
+    -- ---- The first j of them
+
+    abbrev firstOnly : (j : ℕ) → Call
+    firstOnly j = call run (take (pairLength * j) (c .pairs)) (replicate (rowLength * j) 0) (replicate stateLength 0)
+
+    -- A run of them hands back the state that they left.
+    run-of : (j : ℕ) (advances : List Advance) → j ≤ mostPairs → pairLength * j ≤ length (c .pairs) → History h r (pieces pairLength j (c .pairs)) advances
+        → stateIn sheet state c j ≡ stateBytes (lastRod r advances)
+    unfolding stateIn
+    run-of j advances few there history =
+        let first = take (pairLength * j) (c .pairs) in
+        let long : length first ≡ pairLength * j = length-take-le (pairLength * j) (c .pairs) there in
+        let count : countIn first ≡ j = ap (λ (n : ℕ). n / pairLength) long ∙ mul-div-right j (omega arith) in
+        let items : pairsIn first ≡ pieces pairLength j (c .pairs) =
+        ap (λ (n : ℕ). pieces pairLength n first) count ∙ pieces-within pairLength j (c .pairs) there in
+        let own : NoneApplies (callRefusals (firstOnly j)) =
+        roomy-run j _ _ _ few long (length-replicate {A = ℕ} (rowLength * j) 0) (length-replicate {A = ℕ} stateLength 0) in
+        let all = subst (λ (l : List (List ℕ)). History h r l advances) (sym items) history in
+        written-as sheet state (firstOnly j) advances own refl (when-all sheet state (firstOnly j) standing own advances all) .next
+
+    pub record Upto (j : ℕ) : Type 0 where
+      pub advances : List Advance
+      pub history : History h r (pieces pairLength j (c .pairs)) advances
+      pub rows : map rowOf (pieces rowLength j (leaves .rows)) ≡ rowsOf advances
+      pub state-is : stateIn sheet state c j ≡ stateBytes (lastRod r advances)
+      pub passes-again : StatePasses h (lastRod r advances)
+      pub rod-is : stateOf (stateIn sheet state c j) ≡ lastRod r advances
+
+    pub upto : (j : ℕ) → j ≤ accepted → Upto j
+    upto j less =
+        let w = wrote in
+        let first = take j (w .advances) in
+        let later = drop j (w .advances) in
+        let pairs = pieces pairLength j (c .pairs) in
+        let history : History h r pairs first =
+        subst (λ (l : List (List ℕ)). History h r l first) (take-pieces pairLength j accepted (c .pairs) less)
+        (history-prefix h r (pieces pairLength accepted (c .pairs)) (w .advances) j (w .history)) in
+        let bytes : rowsBytes (rowsOf (w .advances)) ≡ rowsBytes (rowsOf first) ++ rowsBytes (rowsOf later) =
+        ap (λ (l : List Advance). rowsBytes (rowsOf l)) (sym (take-append-drop j (w .advances)))
+        ∙ ap rowsBytes (rows-append first later) ∙ bytes-append (rowsOf first) (rowsOf later) in
+        let behind = rowsBytes (rowsOf later) ++ w .behind in
+        let rows : leaves .rows ≡ rowsBytes (rowsOf first) ++ behind =
+        w .rows ∙ ap (λ (l : List ℕ). l ++ w .behind) bytes ∙ append-assoc (rowsBytes (rowsOf first)) (rowsBytes (rowsOf later)) (w .behind) in
+        let many = length-pieces pairLength j (c .pairs) in
+        let state-is = run-of j first (omega (arith, less, w .few)) (omega (arith, less, w .there)) history in
+        let last = history-passes h r pairs first rod-passes history in
+        record {
+          advances = first;
+          history = history;
+          rows = ap (λ (l : List ℕ). map rowOf (pieces rowLength j l)) rows
+              ∙ ap (λ (n : ℕ). map rowOf (pieces rowLength n (rowsBytes (rowsOf first) ++ behind))) (sym many)
+              ∙ rows-back h r pairs first behind rod-passes history;
+          state-is = state-is;
+          passes-again = last;
+          rod-is = ap stateOf state-is ∙ rod-back (lastRod r first) (last .fits);
+        }
+
+    pub ends-after : state ≡ stateBytes r → stateIn sheet state c accepted ≡ stateAfter sheet state c
+    ends-after own = run-of accepted (wrote .advances) (wrote .few) (wrote .there) (wrote .history) ∙ sym (wrote .after own)
+
+    pub ends-rod : stateOf (stateIn sheet state c accepted) ≡ stateOf (stateAfter sheet state c)
+    ends-rod =
+        let last = history-passes h r (pieces pairLength accepted (c .pairs)) (wrote .advances) rod-passes (wrote .history) in
+        ap stateOf (run-of accepted (wrote .advances) (wrote .few) (wrote .there) (wrote .history)) ∙ rod-back (lastRod r (wrote .advances)) (last .fits) ∙ sym (wrote .after-rod)
+
+    pub starts-before : state ≡ stateBytes r → stateIn sheet state c 0 ≡ state
+    unfolding pieces lastRod
+    starts-before own = run-of 0 [] (omega arith) (omega arith) tt ∙ sym own
+
+    pub starts-rod : stateOf (stateIn sheet state c 0) ≡ r
+    unfolding pieces lastRod
+    starts-rod = ap stateOf (run-of 0 [] (omega arith) (omega arith) tt) ∙ rod-back r (rod-passes .fits)
 
     pub standing-at : (j : ℕ) → j ≤ accepted → NoneApplies (standingRefusals sheet (stateIn sheet state c j))
     unfolding standingRefusals
-    standing-at j few =
-        let q = rodPast h r (pieces pairLength j (c .pairs)) in
+    standing-at j less =
+        let u = upto j less in
         let sheet-none = none-split (sheetRefusals sheet) (stateRefusals state ++ againstRefusals h r) standing .0 in
-        let passes-there = standing-passes sheet (none-passes (sheetRefusals sheet) h sheet-none) q (past-fine j (passing-at j few)) q in
-        subst (λ (l : List ℕ). NoneApplies (standingRefusals sheet l)) (sym (state-past j (passing-at j few)))
-        (passes-none-applies (standingRefusals sheet (stateBytes q)) q passes-there)
+        subst (λ (l : List ℕ). NoneApplies (standingRefusals sheet l)) (sym (u .state-is))
+        (standing-passes sheet (none-passes (sheetRefusals sheet) h sheet-none) (lastRod r (u .advances)) (u .passes-again))

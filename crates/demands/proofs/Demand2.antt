@@ -1,31 +1,42 @@
--- Demand 2: each accepted pair of a call, from any sheet and state that pass, reachable or not, leaves the rounding of the only solution of
--- its law's conditions. The pairs that a call accepts all pass, and so each of them is from a state that passes.
-use Prim.Native.Nat.{ℕ, suc, _<_}
-use mathlib.Core.Path.{_≡_, refl, sym, subst, _∙_}
-use mathlib.Core.Bool.{Bool, true, false}
-use mathlib.Core.List.{List}
+-- Demand 2 (SPEC 9.12, 9.13): each accepted pair of a call, from any sheet and state that pass, reachable or not, leaves the rounding of
+-- the only solution of its law's conditions. The pairs that a call accepts all pass, and so each of them is from a state that passes.
+use Prim.Native.Nat.{ℕ, suc, _+_, _<_}
+use mathlib.Core.Path.{_≡_, refl, sym, ap, subst, _∙_}
+use mathlib.Core.Bool.{Bool, true, false, cond}
+use mathlib.Core.List.{List, [], _∷_, _++_, map}
 use native.Mathlib.Omega.{arith}
 use lib.IntN.{ℤ, _-ℤ_}
-use Rattle.refusals.specs.Table.{pick, NoneApplies}
+use lib.ListN.{length, take}
+use Rattle.refusals.specs.Table.{NoneApplies}
 use Rattle.law.specs.declared.Law.{Law}
 use Rattle.law.specs.declared.Law.the-variants.{IsotropicLine, IsotropicCurve, Kinematic, Asymmetric}
 use Rattle.pair.specs.declared.Pair.{Pair}
-use Rattle.pair.specs.Pairs.{pairOf, pairLength}
+use Rattle.pair.specs.Pairs.{pairOf, pairLength, pairRefusals}
 use Rattle.row.specs.declared.Row.{Row}
+use Rattle.row.specs.Rows.{rowOf, rowLength}
 use Rattle.sheet.specs.declared.Sheet.{Sheet}
 use Rattle.sheet.specs.Sheets.{sheetOf}
 use Rattle.sheet.specs.Sound.{SheetSound}
 use Rattle.units.specs.Signs.{isNeg}
 use Rattle.response.specs.Response.{Outcome, branchOf, isotropicMoved, kinematicMoved, asymmetricOutcome, outcomeUnder}
+use Rattle.response.specs.Solved.{Solved, conditionsUnder}
 use Rattle.rod.specs.declared.Rod.{Rod}
-use Rattle.rod.specs.States.{stateOf}
-use Rattle.rod.specs.Steps.{trialOf, outcomeAfter, advanceOf}
-use Rattle.rod.specs.Steady.{Accepted}
+use Rattle.rod.specs.declared.step.Advance.{Advance}
+use Rattle.state.specs.States.{stateOf}
+use Rattle.rod.specs.Steps.{trialOf, outcomeAfter, advanceOf, stepRefusals}
+use Rattle.rod.specs.Accepted.{Accepted}
 use Rattle.rod.proofs.PairSolved.{pair-solved}
-use Rattle.tie_rod.specs.Calls.{standingRefusals}
-use Rattle.demands.specs.Lists.{Call, pieces, acceptedIn}
-use Rattle.demands.specs.Demands.{pieceAt, rodPast, PairSolved, SolvedAt, EachSolved}
-use Rattle.demands.proofs.Accepted.{rod-next, rod-passes, wrote, passing-at, past-fine, rod-in, row-in, standing-at}
+use Rattle.rod.proofs.PlasticStrain.{plastic-change, unused-plastic}
+use Rattle.carry.specs.Walk.{pairTable, lastRod, rowsOf, History}
+use Rattle.carry.proofs.PairAnswers.{pair-passed}
+use Rattle.carry.proofs.Histories.{last-append, rows-append, history-same}
+use Rattle.judge.specs.Standing.{standingRefusals}
+use Rattle.tie_rod.specs.Calls.{Call, pieces, pieceAt, callLeaves}
+use Rattle.tie_rod.proofs.PieceLaws.{pieces-then}
+use Rattle.demands.specs.Lists.{acceptedIn, stateIn}
+use Rattle.demands.specs.Demands.{PairSolved, SolvedAt, EachSolved, RangeDecided, SolvedFrom}
+use Rattle.demands.proofs.Splits.{split-next, map-append, history-passes, last-pair}
+use Rattle.demands.proofs.Accepted.{rod-passes, upto, starts-rod, ends-rod, standing-at}
 
 -- ---- One pair
 
@@ -33,7 +44,7 @@ branch-still : (y : Bool) (s : ℤ) → y ≡ false → branchOf y s ≡ 0
 branch-still y s e = rw e
 
 picked-still : (t : Bool) (a b : Outcome) → (a .yielded ≡ false → a .branch ≡ 0) → (b .yielded ≡ false → b .branch ≡ 0)
-    → pick t a b .yielded ≡ false → pick t a b .branch ≡ 0
+    → cond t a b .yielded ≡ false → cond t a b .branch ≡ 0
 picked-still true a b one other e = one e
 picked-still false a b one other e = other e
 
@@ -47,15 +58,32 @@ no-branch Kinematic h first second trial e = branch-still _ (trial -ℤ first) e
 no-branch Asymmetric h first second trial e = picked-still (isNeg trial) _ _ (branch-still _ trial) (branch-still _ trial) e
 
 module _ {h : Sheet} (sound : SheetSound h) where
+  outcome-solved : (r : Rod) (p : Pair) → Accepted h r
+      → Solved (h .modulus .0) (conditionsUnder (h .law) h sound (r .first .0) (r .second .0) (trialOf h r p)) (outcomeAfter h r p)
+  outcome-solved r p a = pair-solved (record { sound = sound; in-range = a .in-range; counted = a .counted; belongs = a .belongs }) p
+
   solved : (r : Rod) (p : Pair) → Accepted h r → PairSolved h sound r p (advanceOf h r p .rod) (advanceOf h r p .row)
   unfolding advanceOf
   solved r p a =
       record {
         outcome = outcomeAfter h r p;
-        solved = pair-solved (record { sound = sound; in-range = a .in-range; counted = a .counted; belongs = a .belongs }) p;
+        solved = outcome-solved r p a;
         still = no-branch (h .law) h (r .first .0) (r .second .0) (trialOf h r p);
         next-is = refl;
         row-is = refl;
+        plastic = plastic-change h r p (outcomeAfter h r p .stress);
+        row-plastic = refl;
+      }
+
+  -- 10 is decided over the same outcome, whatever the pair.
+  range-decided : (r : Rod) (pair : List ℕ) → Accepted h r → RangeDecided h sound r pair
+  unfolding pairTable pairRefusals stepRefusals
+  range-decided r pair a =
+      record {
+        outcome = outcomeAfter h r (pairOf pair);
+        solved = outcome-solved r (pairOf pair) a;
+        before = take 3 (pairTable h r pair);
+        line = refl;
       }
 
 -- ---- Each pair of a call
@@ -67,35 +95,53 @@ module _ (sheet state : List ℕ) (standing : NoneApplies (standingRefusals shee
   abbrev r : Rod
   r = stateOf state
 
-  abbrev accepted : ℕ
-  accepted = acceptedIn sheet state c
+  abbrev written : List ℕ
+  written = callLeaves sheet state c .rows
 
-  one-solved : (j : ℕ) → j < accepted → SolvedAt sheet sound state c j
+  -- Pair j is the last of a history of j + 1 pairs; the state before it is the one that the first j left.
+  one-solved : (j : ℕ) → j < acceptedIn sheet state c → SolvedAt sheet sound state c j
+  unfolding lastRod
   one-solved j few =
-      let q = rodPast h r (pieces pairLength j (c .pairs)) in
-      let pair = pairOf (pieceAt pairLength j (c .pairs)) in
-      let here = passing-at sheet state standing c j (omega arith) in
-      let now = rod-in sheet state standing c j here in
-      let next = rod-in sheet state standing c (suc j) (passing-at sheet state standing c (suc j) few) ∙ rod-next h j r (c .pairs) in
-      let row = row-in sheet state standing c j few in
-      subst (λ (t : Rod × Rod × Row). PairSolved h sound (t .0) pair (t .1) (t .2))
-      (λ i. (sym now i, sym next i, sym row i)) (solved sound q pair (past-fine sheet state standing c j here .accepted))
+      let u = upto sheet state standing c (j + 1) (omega arith) in
+      let v = upto sheet state standing c j (omega arith) in
+      let pair = pieceAt pairLength j (c .pairs) in
+      let l = last-pair h r (pieces pairLength j (c .pairs)) pair (u .advances) (subst (λ (p : List (List ℕ)). History h r p (u .advances)) (pieces-then pairLength j (c .pairs)) (u .history)) in
+      let same : v .advances ≡ l .before = history-same h r (pieces pairLength j (c .pairs)) (v .advances) (l .before) (v .history) (l .history) in
+      let q = lastRod r (l .before) in
+      let now : stateOf (stateIn sheet state c j) ≡ q = v .rod-is ∙ ap (lastRod r) same in
+      let is = pair-passed h q pair (l .accepted) .is in
+      let next : stateOf (stateIn sheet state c (j + 1)) ≡ advanceOf h q (pairOf pair) .rod =
+      u .rod-is ∙ ap (lastRod r) (l .apart) ∙ last-append r (l .before) (l .last ∷ []) ∙ ap (λ (a : Advance). a .rod) is in
+      let rows : map rowOf (pieces rowLength j written) ++ (rowOf (pieceAt rowLength j written) ∷ []) ≡ rowsOf (l .before) ++ (l .last .row ∷ []) =
+      sym (map-append rowOf (pieces rowLength j written) (pieceAt rowLength j written ∷ [])) ∙ ap (map rowOf) (sym (pieces-then rowLength j written))
+      ∙ u .rows ∙ ap rowsOf (l .apart) ∙ rows-append (l .before) (l .last ∷ []) in
+      let long : length (map rowOf (pieces rowLength j written)) ≡ length (rowsOf (l .before)) = ap length (v .rows) ∙ ap (λ (a : List Advance). length (rowsOf a)) same in
+      let row : rowOf (pieceAt rowLength j written) ≡ advanceOf h q (pairOf pair) .row =
+      split-next (map rowOf (pieces rowLength j written)) (rowsOf (l .before)) (rowOf (pieceAt rowLength j written)) (l .last .row) [] [] long rows ∙ ap (λ (a : Advance). a .row) is in
+      let passes = history-passes h r (pieces pairLength j (c .pairs)) (l .before) (rod-passes sheet state standing) (l .history) in
+      subst (λ (t : Rod × Rod × Row). PairSolved h sound (t .0) (pairOf pair) (t .1) (t .2))
+      (λ i. (sym now i, sym next i, sym row i)) (solved sound q (pairOf pair) (passes .accepted))
 
-  each-solved : EachSolved sheet sound state c
-  unfolding pieces rodPast
+  pub each-solved : EachSolved sheet sound state c
   each-solved =
-      let w = wrote sheet state standing c in
       record {
         each = one-solved;
-        starts = rod-in sheet state standing c 0 (passing-at sheet state standing c 0 (omega arith));
+        starts = starts-rod sheet state standing c;
         passing = standing-at sheet state standing c;
-        ends = rod-in sheet state standing c accepted (w .passing) ∙ sym (w .after);
+        ends = ends-rod sheet state standing c;
       }
 
 -- ---- The theorem
 
 pub all-solved : (sheet state : List ℕ) → NoneApplies (standingRefusals sheet state)
-    → (sound : SheetSound (sheetOf sheet)) × ((c : Call) → EachSolved sheet sound state c)
+    → (sound : SheetSound (sheetOf sheet)) × SolvedFrom sheet state sound
 all-solved sheet state standing =
-    let sound = rod-passes sheet state standing .accepted .sound in
-    (sound, λ c. each-solved sheet state standing c sound)
+    let passes = rod-passes sheet state standing in
+    let sound = passes .accepted .sound in (
+      sound,
+      record {
+        calls = λ c. each-solved sheet state standing c sound;
+        range = λ pair. range-decided sound (stateOf state) pair (passes .accepted);
+        unused = unused-plastic (sheetOf sheet);
+      },
+    )

@@ -1,33 +1,32 @@
--- The three demands of the mission, in their final form. They are over the definitions of a call on bytes, with which the contracts of the
--- entries are equations; what each claims is said in specs/Demands and specs/Lists.
+-- The three demands of the mission, in their final form (SPEC 9.11 to 9.13, 11.8 to 11.11). They are over the definitions of a call on
+-- bytes, with which the contracts of the entries are equations; what each claims is said in specs/Demands and specs/Lists.
 use Prim.Native.Nat.{ℕ}
 use mathlib.Core.Path.{_≡_}
 use mathlib.Core.List.{List}
 use Rattle.refusals.specs.Table.{passes, NoneApplies}
 use Rattle.sheet.specs.Sheets.{sheetOf}
 use Rattle.sheet.specs.Sound.{SheetSound}
-use Rattle.tie_rod.specs.Calls.{standingRefusals, unusedAnswer}
-use Rattle.demands.specs.Lists.{Call, AtEveryStop}
-use Rattle.demands.specs.Demands.{Answered, EachSolved}
+use Rattle.judge.specs.Standing.{standingRefusals}
+use Rattle.tie_rod.specs.Calls.{Call, unusedAnswer}
+use Rattle.demands.specs.Lists.{begins, AtEveryStop}
+use Rattle.demands.specs.Demands.{Answered, SolvedFrom}
 use Rattle.demands.proofs.Demand1.{all-answered}
 use Rattle.demands.proofs.Demand2.{all-solved}
 use Rattle.demands.proofs.Demand3.{all-within}
 
--- 1. Any bytes of any length, as sheet and as state, with any call, forecast or unused rod asked of them: "each either passes or gets its
--- number from the list in document 01, under the condition given there and under no other, and a refusal leaves the results and the state
--- as that document says."
+-- SPEC 9.11, demand 1: any bytes of any length, as sheet and as state, with any call, forecast or unused rod asked of them, are answered
+-- with the number and place that the tables give and with no others, and all lent bytes are as the stage of the refusal says.
 pub demand-1 : (sheet state : List ℕ) → Answered sheet state
 demand-1 = all-answered
 
--- 2. Any sheet and state that pass 1 to 6, reachable or not: "for each accepted pair" of any call "the new state is the rounding, as stated,
--- of the only solution of the law's yield and flow conditions .. from the old state; and the tangent is the one that the law gives there."
+-- SPEC 9.12, 9.13, demand 2: for any sheet and state that pass 1 to 6, reachable or not, each pair that a call accepts leaves the roundings
+-- of the one solution that the law's conditions have there, with the law's tangent.
 pub demand-2 : (sheet state : List ℕ) → NoneApplies (standingRefusals sheet state)
-    → (sound : SheetSound (sheetOf sheet)) × ((c : Call) → EachSolved sheet sound state c)
+    → (sound : SheetSound (sheetOf sheet)) × SolvedFrom sheet state sound
 demand-2 = all-solved
 
--- 3. Any sheet, the unused rod made from it, and "every list of calls .. each next one from the state that the last one handed back": "at
--- whatever point a reader stops, inside a run too", all lies "within k grains of the exact solution in fractions for the whole history of
--- accepted pairs", and "the k and n that the state carries are the true counts."
+-- SPEC 11.8 to 11.11, demand 3: for any sheet from which an unused rod is made, and any list of calls that begins with that rod, the stored
+-- rod lies at every stop within k grains of the bar without rounding that is fed the history, and its k and n are true.
 pub demand-3 : (sheet first : List ℕ) → unusedAnswer sheet ≡ passes first
-    → (sound : SheetSound (sheetOf sheet)) × ((calls : List Call) → AtEveryStop sheet sound first calls)
+    → (sound : SheetSound (sheetOf sheet)) × ((calls : List Call) → AtEveryStop sheet sound (begins first) calls)
 demand-3 = all-within

@@ -1,5 +1,4 @@
-pub mod Pieces
-pub mod Walks
+pub mod Splits
 pub mod Demand1
 pub mod Accepted
 pub mod Demand2

@@ -1,122 +1,95 @@
--- Demand 3 over lists of calls: "All this is one claim about the entire list, not a claim per call" (document 01, The bar without
--- rounding). Definitions only, over those of a call on bytes and never over the program; nothing is assumed.
-use Prim.Native.Nat.{ℕ, zero, suc, _-_, _*_, _/_, _≤_}
+-- Lists of calls as a fold over situations, and demand 3 as one claim over a whole list (SPEC 11.1 to 11.13), cited by proofs/Demands;
+-- definitions only, over what a call leaves and never over the program, nothing is assumed.
+use Prim.Native.Nat.{ℕ, suc, _-_, _*_, _≤_, _<_}
 use mathlib.Core.Path.{_≡_}
-use mathlib.Core.Bool.{Bool, false}
+use mathlib.Core.Bool.{true, cond}
 use mathlib.Core.List.{List, [], _∷_, _++_, map}
-use lib.ListN.{length, take, drop, replicate}
+use mathlib.Core.Logic.{_↔_}
+use lib.ListN.{length, take, replicate}
 use lib.Dec.{eqb}
-use Rattle.refusals.specs.Table.{firstOf, passes, pick}
-use Rattle.bits.specs.Field.{within}
+use Rattle.refusals.specs.Table.{NoneApplies}
 use Rattle.pair.specs.declared.Pair.{Pair}
 use Rattle.pair.specs.Pairs.{pairOf, pairLength}
 use Rattle.row.specs.declared.Row.{Row}
 use Rattle.row.specs.Rows.{rowOf, rowLength}
 use Rattle.sheet.specs.Sheets.{sheetOf}
 use Rattle.sheet.specs.Sound.{SheetSound}
-use Rattle.rod.specs.States.{stateOf, stateLength}
-use Rattle.accuracy.specs.Within.{AtStop}
-use Rattle.tie_rod.specs.Calls.{Left, readyOf, standingRefusals, runLeaves, pairLeaves}
+use Rattle.state.specs.States.{stateOf, stateLength}
+use Rattle.accuracy.specs.Within.{PassesLimit, AtStop}
+use Rattle.judge.specs.Standing.{standingRefusals}
+use Rattle.tie_rod.specs.Calls.{Call, call, run, pieces, pieceAt, countIn, callLeaves}
 
--- A call: a single pair or a run, its pair bytes, and what the two lent buffers hold before it. Any bytes, any lengths.
-pub record Call : Type 0 where
-  pub single : Bool
-  pub pairs : List ℕ
-  pub rows : List ℕ
-  pub next : List ℕ
+-- SPEC 11.4, 11.13: a situation is what a list of calls has come to: the state that the next call is given; the history, which is the
+-- papers' term for all pairs accepted so far, call by call; and the rows written for them.
+pub record Situation : Type 0 where
+  pub state : List ℕ
+  pub history : List Pair
+  pub rows : List Row
 
--- The first pieces of some bytes, so many of one size.
-unfoldable pub pieces : (size count : ℕ) → List ℕ → List (List ℕ)
-pieces size zero bytes = []
-pieces size (suc count) bytes = take size bytes ∷ pieces size count (drop size bytes)
+-- SPEC 11.1, 11.13: where a list begins: the bytes of the sheet's unused rod, no pair and no row.
+abbrev pub begins : (unused : List ℕ) → Situation
+begins unused = record { state = unused; history = []; rows = [] }
 
--- "A call refused with 8 to 11 adds those before its place, any other refused call none", of a call with so many pairs.
-unfoldable pub acceptedBy : (number place pairs : ℕ) → ℕ
-acceptedBy number place pairs = pick (eqb number 0) pairs (pick (within 8 11 number) (place - 1) 0)
-
--- The first j pairs of a call.
-unfoldable pub pairsIn : Call → (j : ℕ) → List Pair
-pairsIn c j = map pairOf (pieces pairLength j (c .pairs))
+-- SPEC 11.3: how many of a call's pairs were accepted, read off its number and place alone: all of them, or those before the refused one.
+-- Where a call is refused before its pairs its place is 0, and none was.
+abbrev pub acceptedBy : (number place pairs : ℕ) → ℕ
+acceptedBy number place pairs = cond (eqb number 0) pairs (place - 1)
 
 -- All calls are on one sheet.
 module _ (sheet : List ℕ) where
-  -- ---- One call, given a state
-
-  -- What it leaves.
-  unfoldable pub callLeaves : (state : List ℕ) → Call → Left
-  callLeaves state c =
-      pick (c .single) (pairLeaves sheet state (c .pairs) (c .rows) (c .next)) (runLeaves sheet state (c .pairs) (c .rows) (c .next))
-
-  -- "Each call is given the state that the last one handed back, or the old one where the buffer for it wasn't written."
-  unfoldable pub stateAfter : (state : List ℕ) → Call → List ℕ
-  stateAfter state c = pick (eqb (length (c .next)) stateLength) (callLeaves state c .next) state
-
-  -- How many of its pairs were accepted, read off its number and place alone.
+  -- SPEC 11.3: the same of a call that is given this state.
   unfoldable pub acceptedIn : (state : List ℕ) → Call → ℕ
-  acceptedIn state c =
-      acceptedBy (callLeaves state c .reply .number) (callLeaves state c .reply .place) (length (c .pairs) / pairLength)
+  acceptedIn state c = let reply = callLeaves sheet state c .reply in acceptedBy (reply .number) (reply .place) (countIn (c .pairs))
 
-  -- The first j rows among the bytes that the call itself wrote.
-  unfoldable pub rowsIn : (state : List ℕ) → Call → (j : ℕ) → List Row
-  rowsIn state c j = map rowOf (pieces rowLength j (callLeaves state c .rows))
+  -- SPEC 11.2: what the call behind this one is given: the state that this one handed back, or the same as this one where its buffer can't
+  -- hold a state and so wasn't written.
+  unfoldable pub stateAfter : (state : List ℕ) → Call → List ℕ
+  stateAfter state c = cond (eqb (length (c .next)) stateLength) (callLeaves sheet state c .next) state
 
-  -- "Inside a run its state is the one that a run ending there hands back": a run of the first j pairs, with room for j rows and a state.
+  -- SPEC 11.6: the state behind the first j pairs of a call: what a run of just these would hand back, given room for j rows and a state.
   unfoldable pub stateIn : (state : List ℕ) → Call → (j : ℕ) → List ℕ
   stateIn state c j =
-      runLeaves sheet state (take (pairLength * j) (c .pairs)) (replicate (rowLength * j) 0) (replicate stateLength 0) .next
+      callLeaves sheet state (call run (take (pairLength * j) (c .pairs)) (replicate (rowLength * j) 0) (replicate stateLength 0)) .next
 
-  -- ---- A list of calls, the first given a state
+  -- SPEC 11.4, 11.6: what the first j pairs of a call add to a situation: the pairs, and the rows among the bytes that it wrote.
+  abbrev pub added : Situation → Call → (j : ℕ) → (state : List ℕ) → Situation
+  added s c j state =
+      record {
+        state = state;
+        history = s .history ++ map pairOf (pieces pairLength j (c .pairs));
+        rows = s .rows ++ map rowOf (pieces rowLength j (callLeaves sheet (s .state) c .rows));
+      }
 
-  -- "A stop is before the first pair, after any pair of the history or after a refused call": i whole calls and j accepted pairs of the
-  -- next. Behind the last call no pair follows.
-  abbrev pub Stop : (state : List ℕ) → List Call → (i j : ℕ) → Type 0
-  Stop state [] i j = (i ≡ 0) × (j ≡ 0)
-  Stop state (c ∷ calls) zero j = j ≤ acceptedIn state c
-  Stop state (c ∷ calls) (suc i) j = Stop (stateAfter state c) calls i j
+  -- SPEC 11.5: a stop, which is the papers' term: the situation behind j accepted pairs of a call, j being 0 before the first,
+  abbrev pub stopIn : Situation → Call → (j : ℕ) → Situation
+  stopIn s c j = added s c j (stateIn (s .state) c j)
 
-  -- What the calls before a stop add, each for all of its accepted pairs, and then the next call for the first j of its own.
-  unfoldable pub upTo : {A : Type 0} → (adds : (state : List ℕ) → Call → (j : ℕ) → List A) → (state : List ℕ) → List Call → (i j : ℕ) → List A
-  upTo adds state [] i j = []
-  upTo adds state (c ∷ calls) zero j = adds state c j
-  upTo adds state (c ∷ calls) (suc i) j = adds state c (acceptedIn state c) ++ upTo adds (stateAfter state c) calls i j
+  -- and the one behind the whole call.
+  abbrev pub afterCall : Situation → Call → Situation
+  afterCall s c = added s c (acceptedIn (s .state) c) (stateAfter (s .state) c)
 
-  -- "The history is the accepted pairs of all calls, in order",
-  abbrev pub pairsAt : (state : List ℕ) → List Call → (i j : ℕ) → List Pair
-  pairsAt state calls i j = upTo (λ given c j. pairsIn c j) state calls i j
+  -- ---- The claim. `sound` says that the sheet passes.
 
-  -- the rows written for them,
-  abbrev pub rowsAt : (state : List ℕ) → List Call → (i j : ℕ) → List Row
-  rowsAt state calls i j = upTo rowsIn state calls i j
+  module _ (sound : SheetSound (sheetOf sheet)) where
+    -- SPEC 11.8, 11.9: what holds at a stop: all lies within k grains of the bar that is fed the history, the counts are true, and the
+    -- state passes 1 to 6 with the sheet.
+    pub record Holds (s : Situation) : Type 0 where
+      pub within : AtStop (sheetOf sheet) sound (s .history) (s .rows) (stateOf (s .state))
+      pub standing : NoneApplies (standingRefusals sheet (s .state))
 
-  -- and the state at the stop.
-  unfoldable pub stateAt : (state : List ℕ) → List Call → (i j : ℕ) → List ℕ
-  stateAt state [] i j = state
-  stateAt state (c ∷ calls) zero j = stateIn state c j
-  stateAt state (c ∷ calls) (suc i) j = stateAt (stateAfter state c) calls i j
+    -- SPEC 11.8 to 11.11, of a call: it meets none of 1 to 6, all holds at each of its stops, and the states at its first and last stop are
+    -- the ones that it was given and hands on.
+    pub record AtCall (s : Situation) (c : Call) : Type 0 where
+      pub standing : NoneApplies (standingRefusals sheet (s .state))
+      pub stops : (j : ℕ) → j ≤ acceptedIn (s .state) c → Holds (stopIn s c j)
+      pub starts : stateIn (s .state) c 0 ≡ s .state
+      pub ends : stateIn (s .state) c (acceptedIn (s .state) c) ≡ stateAfter (s .state) c
+      -- SPEC 11.11: a row says that the rod yielded exactly where the trial, from the state stored before its pair, passes a limit
+      pub marked : (j : ℕ) → j < acceptedIn (s .state) c
+          → (rowOf (pieceAt rowLength j (callLeaves sheet (s .state) c .rows)) .yielded ≡ true)
+          ↔ PassesLimit (sheetOf sheet) sound (stateOf (stateIn (s .state) c j)) (pairOf (pieceAt pairLength j (c .pairs)))
 
-  -- ---- The claim
-
-  -- Of each call with the state that it is given: it meets none of 1 to 6; its stop before the first pair has that state, and the one
-  -- behind its last accepted pair the next call's.
-  pub record AtCall (state : List ℕ) (c : Call) : Type 0 where
-    pub none-standing : within 1 6 (callLeaves state c .reply .number) ≡ false
-    pub starts : stateIn state c 0 ≡ state
-    pub ends : stateIn state c (acceptedIn state c) ≡ stateAfter state c
-
-  abbrev pub AtEachCall : (state : List ℕ) → List Call → Type 0
-  AtEachCall state [] = Unit {0}
-  AtEachCall state (c ∷ calls) = AtCall state c × AtEachCall (stateAfter state c) calls
-
-  -- Demand 3 for one list of calls. `sound` says that the sheet passes.
-  pub record AtEveryStop (sound : SheetSound (sheetOf sheet)) (first : List ℕ) (calls : List Call) : Type 0 where
-    -- At each stop what was read of the state lies within k grains of the bar fed with the history, where k counts the rows; the state's
-    -- k and n are the true counts, and the last row shows the state.
-    pub at-stop : (i j : ℕ) → Stop first calls i j
-        → AtStop (sheetOf sheet) sound (pairsAt first calls i j) (rowsAt first calls i j) (stateOf (stateAt first calls i j))
-    -- The state passes 1 to 6 with the sheet.
-    pub passing : (i j : ℕ) → Stop first calls i j
-        → firstOf (standingRefusals sheet (stateAt first calls i j)) (readyOf sheet (stateAt first calls i j))
-        ≡ passes (readyOf sheet (stateAt first calls i j))
-    -- There is a stop before each call and one behind the last, with no call too.
-    pub stops : (i : ℕ) → i ≤ length calls → Stop first calls i 0
-    pub each-call : AtEachCall first calls
+    -- SPEC 11.8, 11.13: demand 3 for a list of calls from a situation: at every stop of each, and at the end.
+    abbrev pub AtEveryStop : Situation → List Call → Type 0
+    AtEveryStop s [] = Holds s
+    AtEveryStop s (c ∷ calls) = AtCall s c × AtEveryStop (afterCall s c) calls

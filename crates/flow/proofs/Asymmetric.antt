@@ -1,5 +1,6 @@
--- Law 3: the conditions have a solution and no other, it is the step of the bar without rounding, a pair moves at most one side, and a side's
--- plastic strain grows exactly when the trial passes its limit. Compression is tension with the two sides exchanged (`mirrored`).
+-- Law 3 (SPEC 6.5, 6.7 to 6.9): the conditions have a solution and no other, it is the step of the bar without rounding, at most one side
+-- flows, and a side's plastic strain grows exactly when the trial passes its limit. Compression is tension with the two sides exchanged
+-- (`mirrored`).
 use mathlib.Core.List.{[], _∷_}
 use mathlib.Core.Logic.{_↔_}
 use native.Mathlib.Omega.{arith}
@@ -11,7 +12,7 @@ use Rattle.fractions.proofs.Cases.{cond-cases}
 use Rattle.fractions.proofs.Arithmetic.{sub-same}
 use Rattle.flow.specs.Side.{Side, accumulated, Hardens}
 use Rattle.flow.specs.Conditions.{OnSide, Asymmetric}
-use Rattle.flow.specs.Solution.{AsymmetricMoved, flowed, asymmetric}
+use Rattle.flow.specs.Solution.{AsymmetricSolved, flowed, asymmetric}
 use Rattle.flow.proofs.OneSide.{more-strain-more-stress, accumulated-injective, grows-past-limit, limit-positive, rests, flows, flow-balances, on-side-same}
 
 pub negated-twice : (x : Frac) → x ≈F negF (negF x)
@@ -35,7 +36,7 @@ mirrored {tension} {compression} {trial} {A} {B} {stress} {A′} {B′} s =
     }
 
 module _ {tension compression : Side} (curve : Hardens tension) (curve′ : Hardens compression) where
-  -- "A pair moves at most one."
+  -- SPEC 6.8: not both sides flow.
   pub at-most-one : {trial A B stress A′ B′ : Frac} → Asymmetric tension compression trial A B stress A′ B′
       → accumulated tension A <F accumulated tension A′ → ¬ (accumulated compression B <F accumulated compression B′)
   at-most-one {stress = stress} {A′} {B′} s l l′ =
@@ -209,5 +210,5 @@ module _ {tension compression : Side} (curve : Hardens tension) (curve′ : Hard
       (λ e′. asymmetric-same (≈F-sym (negated-twice trial)) (mirrored (tension-flows curve′ curve p′ p (leF-false _ _ e′)))))
       (λ e. tension-flows curve curve′ p p′ (leF-false _ _ e))
     where
-      solved : AsymmetricMoved → Type 0
+      solved : AsymmetricSolved → Type 0
       solved m = Asymmetric tension compression trial A B (m .stress) (m .tension) (m .compression)

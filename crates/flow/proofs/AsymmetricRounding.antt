@@ -1,4 +1,4 @@
--- Law 3: what is stored is the stated rounding of every candidate that meets the conditions.
+-- Law 3 (SPEC 7.1, 7.4): what is stored is the stated rounding of every candidate that meets the conditions.
 use mathlib.Core.Path.{_≡_, refl, sym, ap, _∙_}
 use mathlib.Core.List.{[], _∷_}
 use mathlib.Core.Bool.{true}

@@ -1,4 +1,5 @@
--- The curve of a side that passes is one that the theorems speak of: T hardens and flattens, and its whole limit is T rounded down.
+-- SPEC 4.9: the curve of a side that passes is one that the theorems speak of: it hardens and flattens, and its whole limit is T rounded
+-- down (SPEC 4.4).
 use Prim.Native.Nat.{ℕ, _<_}
 use native.Mathlib.Omega.{arith}
 use lib.IntN.{pos}

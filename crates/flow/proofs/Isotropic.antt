@@ -1,5 +1,5 @@
--- Laws 0 and 1: the conditions have a solution and no other, it is the step of the bar without rounding, and plastic strain grows exactly
--- when the trial passes the limit.
+-- Laws 0 and 1 (SPEC 6.3, 6.7 to 6.9): the conditions have a solution and no other, it is the step of the bar without rounding, and plastic
+-- strain grows exactly when the trial passes the limit.
 use mathlib.Core.Logic.{_↔_}
 use lib.IntN.{pos}
 use Rattle.fractions.specs.Fraction.{Frac, _≤F_, _<F_, _≈F_, whole, _+F_, _-F_, absF, signedF}
@@ -9,7 +9,7 @@ use Rattle.fractions.proofs.Arithmetic.{signed-same}
 use Rattle.fractions.proofs.Signs.{abs-signed, like-signs-abs, like-signs-sign, signed-rest, nought-signed}
 use Rattle.flow.specs.Side.{Side, accumulated, Hardens}
 use Rattle.flow.specs.Conditions.{OnSide, Isotropic}
-use Rattle.flow.specs.Solution.{Moved, flowed, isotropic}
+use Rattle.flow.specs.Solution.{Solved, flowed, isotropic}
 use Rattle.flow.proofs.OneSide.{one-side-unique, grows-past-limit, limit-positive, rests, flows, flow-balances, on-side-same, growth-not-negative}
 
 module _ {side : Side} {trial A stress A′ : Frac} (s : Isotropic side trial A stress A′) where
@@ -61,5 +61,5 @@ module _ {side : Side} (curve : Hardens side) where
       → let m = isotropic side trial A in Isotropic side trial A (m .stress) (m .variable)
   unfolding isotropic
   isotropic-solves trial A p =
-      cond-cases (λ (m : Moved). Isotropic side trial A (m .stress) (m .variable)) _ _ _
+      cond-cases (λ (m : Solved). Isotropic side trial A (m .stress) (m .variable)) _ _ _
       (λ e. isotropic-rests p (leF-true _ _ e)) (λ e. isotropic-flows p (leF-false _ _ e))

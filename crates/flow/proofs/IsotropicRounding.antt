@@ -1,4 +1,4 @@
--- Laws 0 and 1: what is stored is the stated rounding of every candidate that meets the conditions.
+-- Laws 0 and 1 (SPEC 7.1, 7.2): what is stored is the stated rounding of every candidate that meets the conditions.
 use mathlib.Core.Path.{_≡_, refl, sym, ap, _∙_}
 use mathlib.Core.Bool.{true}
 use mathlib.Core.Logic.{_↔_, ⊎-elim}

@@ -1,6 +1,6 @@
--- Law 2: the conditions have a solution and no other, it is the step of the bar without rounding, and plastic strain grows exactly when the
--- trial passes the radius. About its centre the law is one side of a flat curve: with u = stress - X′ and v = trial - X, v - u is
--- E / (E - tangent) times the growth, with the sign of u, so that |v| = |u| + that growth.
+-- Law 2 (SPEC 6.4, 6.7 to 6.9): the conditions have a solution and no other, it is the step of the bar without rounding, and plastic strain
+-- grows exactly when the trial passes the radius. About its centre the law is one side of a flat curve: with u = stress - X′ and v = trial
+-- - X, v - u is E / (E - tangent) times the growth, with the sign of u, so that |v| = |u| + that growth.
 use mathlib.Core.Path.{_≡_, ap}
 use mathlib.Core.List.{[], _∷_}
 use mathlib.Core.Logic.{_↔_}
@@ -17,7 +17,7 @@ use Rattle.fractions.proofs.Arithmetic.{add-same, sub-same, abs-same, add-then-
 use Rattle.fractions.proofs.Signs.{abs-signed, abs-not-negative, nought-signed, signed-signed, like-signs-abs, like-signs-sign, times-signed}
 use Rattle.flow.specs.Side.{Side, accumulated, Hardens}
 use Rattle.flow.specs.Conditions.{OnSide, Kinematic}
-use Rattle.flow.specs.Solution.{Moved, kinematic}
+use Rattle.flow.specs.Solution.{Solved, kinematic}
 use Rattle.flow.proofs.OneSide.{one-side-unique, grows-past-limit}
 
 -- A limit that never rises.
@@ -234,5 +234,5 @@ module _ {E tangent : ℕ} {below : tangent < E} {yield : Frac} (positive : whol
       Kinematic E tangent below yield trial X (m .stress) (m .variable) (absF (trial -F m .stress))
   unfolding kinematic
   kinematic-solves h trial X =
-      cond-cases (λ (m : Moved). Kinematic E tangent below yield trial X (m .stress) (m .variable) (absF (trial -F m .stress))) _ _ _
+      cond-cases (λ (m : Solved). Kinematic E tangent below yield trial X (m .stress) (m .variable) (absF (trial -F m .stress))) _ _ _
       (λ e. kinematic-rests (leF-true _ _ e)) (λ e. kinematic-flows h (leF-false _ _ e))

@@ -1,4 +1,4 @@
--- Law 2: what is stored is the stated rounding of every candidate that meets the conditions.
+-- Law 2 (SPEC 7.1, 7.3): what is stored is the stated rounding of every candidate that meets the conditions.
 use mathlib.Core.Path.{_≡_, refl}
 use mathlib.Core.Bool.{true, false, false≢true}
 use mathlib.Core.Logic.{_↔_, Iff·trans, ⊎-elim}

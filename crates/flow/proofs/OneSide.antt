@@ -1,4 +1,4 @@
--- One side of a curve, on magnitudes: what laws 0, 1 and both sides of law 3 share, and law 2 about its centre.
+-- One side of a curve, on magnitudes (SPEC 6.2, 6.7 to 6.9): what laws 0, 1 and both sides of law 3 share, and law 2 about its centre.
 use mathlib.Core.List.{[], _∷_}
 use mathlib.Core.Logic.{⊎-elim, _↔_}
 use native.Mathlib.Omega.{arith}
@@ -58,7 +58,7 @@ module _ {side : Side} (curve : Hardens side) where
         accumulated-injective (h .past) (h′ .past) strain,
       )
 
-  -- "That bit is 1 exactly when the trial passes a limit; equality doesn't pass": p grows exactly then.
+  -- SPEC 6.8: p grows exactly where the trial passes the limit, and a trial at the limit doesn't.
   pub grows-past-limit : {trial A q B : Frac} → side .yield ≤F A → OnSide side A q B → trial ≈F (q +F (accumulated side B -F accumulated side A))
       → (accumulated side A <F accumulated side B) ↔ (side .limit A <F trial)
   grows-past-limit {trial} {A} {q} {B} p h e = (passes, grows)

@@ -1,5 +1,5 @@
--- One side, from a whole abscissa: the excess of the trial's magnitude over the limit rounded down decides as the limit itself does, and
--- gives the exact abscissa rounded up.
+-- One side, from a whole abscissa (SPEC 7.2, 7.11): the excess of the trial's magnitude over the limit rounded down decides as the limit
+-- itself does, and gives the exact abscissa rounded up.
 use mathlib.Core.Path.{_≡_, refl}
 use mathlib.Core.List.{[], _∷_}
 use mathlib.Core.Bool.{true, false, false≢true}

@@ -1,44 +1,45 @@
--- The exact solution of the conditions, law by law: the step of "The bar without rounding" (document 01). Nothing is rounded.
--- Definitions only; nothing is assumed.
+-- The solution of the conditions in closed form, law by law and without rounding (SPEC 6.9), cited by the bar's step (accuracy/specs/Bar);
+-- definitions only, nothing is assumed, and that it is the only solution is proved.
 use mathlib.Core.Bool.{cond}
 use Prim.Native.Nat.{ℕ, _<_}
 use Rattle.fractions.specs.Fraction.{Frac, leF, _+F_, negF, _-F_, absF, signedF, timesF}
 use Rattle.flow.specs.Side.{Side}
 
--- The stress and the abscissa, or the centre, after a pair.
-pub record Moved : Type 0 where
+-- SPEC 6.9: the stress and the abscissa, or the centre, after a pair of laws 0 to 2.
+pub record Solved : Type 0 where
   pub stress : Frac
   pub variable : Frac
 
--- The abscissa after a side flowed: "A grows by |s| - T(A)".
+-- SPEC 6.9: a side flows by as much as the trial, counted as that side counts it, lies beyond its limit.
 abbrev pub flowed : Side → Frac → Frac → Frac
 flowed side trial A = A +F (trial -F side .limit A)
 
--- "If |s| ≤ T(A), the stress is s. Else A grows by |s| - T(A), and the stress is T at the new A, with the sign of s."
-unfoldable pub isotropic : Side → (trial A : Frac) → Moved
+-- SPEC 6.9, laws 0 and 1: up to the limit the trial is the stress and the abscissa stays; beyond it the side flows, and the stress is the
+-- limit that it comes to, with the trial's sign.
+unfoldable pub isotropic : Side → (trial A : Frac) → Solved
 isotropic side trial A =
     let A′ = flowed side (absF trial) A in
     cond (leF (absF trial) (side .limit A)) (record { stress = trial; variable = A })
     (record { stress = signedF trial (side .limit A′); variable = A′ })
 
--- "If |s - X| ≤ yield, the stress is s. Else X moves toward s by (|s - X| - yield) times tangent / E, and the stress is one yield beyond
--- the new X, on the side of s."
-unfoldable pub kinematic : (E tangent : ℕ) → 0 < E → (yield trial X : Frac) → Moved
+-- SPEC 6.9, law 2: up to one radius from the centre the trial is the stress and the centre stays; further out the centre moves toward the
+-- trial by t / E of the excess, and the stress is one radius ahead of the new centre.
+unfoldable pub kinematic : (E tangent : ℕ) → 0 < E → (yield trial X : Frac) → Solved
 kinematic E tangent E-pos yield trial X =
     let s = trial -F X in
     let X′ = X +F signedF s (timesF (absF s -F yield) tangent E E-pos) in
     cond (leF (absF s) yield) (record { stress = trial; variable = X })
     (record { stress = X′ +F signedF s yield; variable = X′ })
 
--- The stress and the abscissas of both sides after a pair of law 3.
-pub record AsymmetricMoved : Type 0 where
+-- SPEC 6.9: the stress and the abscissas of both sides after a pair of law 3.
+pub record AsymmetricSolved : Type 0 where
   pub stress : Frac
   pub tension : Frac
   pub compression : Frac
 
--- "If s is above the tension limit, the tension side moves as in law 0; if -s is above the compression limit, that side does, with the
--- stress negative; else the stress is s."
-unfoldable pub asymmetric : (tension compression : Side) → (trial A B : Frac) → AsymmetricMoved
+-- SPEC 6.9, law 3: between both limits the trial is the stress and both abscissas stay; beyond one of them that side flows, the stress is
+-- its new limit (negative in compression), and the other side stays. Tension is asked first.
+unfoldable pub asymmetric : (tension compression : Side) → (trial A B : Frac) → AsymmetricSolved
 asymmetric tension compression trial A B =
     let A′ = flowed tension trial A in
     let B′ = flowed compression (negF trial) B in

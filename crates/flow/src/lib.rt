@@ -1,1 +1,1 @@
-// Definitions and theorems only: the yield and flow conditions of the laws over fractions, and their solutions.
+// Definitions and theorems only: the conditions of the laws over fractions, their solutions and what is stored of them (SPEC 6 and 7).

@@ -1,4 +1,4 @@
--- Every operation on fractions respects "the same number"; sums are monotone; "within k" is two inequalities.
+-- SPEC 2.6, 2.8: every operation on fractions respects "the same number"; sums are monotone; "within k" is two inequalities.
 use mathlib.Core.Path.{_≡_, refl}
 use mathlib.Core.List.{[], _∷_}
 use mathlib.Core.Logic.{_↔_}
@@ -174,3 +174,12 @@ within-rest {k} w z {x} h =
     let near = is-within k i j .0 h in
     is-within k (is-sub l i) (is-sub l j) .1 (record { above = omega arith; below = omega arith })))
     (whole-sub w z) (≈F-refl (whole w -F x))
+
+-- What two fractions take from a sum of whole numbers and from its first part.
+pub rest-of-sum : (x z : ℤ) (b c : Frac) → (whole (x +ℤ z) -F c -F (whole x -F b)) ≈F (b +F whole z -F c)
+rest-of-sum x z b c =
+    at-common (b ∷ c ∷ [])
+    (λ d ((_, _, i), ((_, _, j), _)).
+    let first = is-whole x (i .some) in
+    let sum = is-add first (is-whole z (i .some)) in
+    is-eq (is-sub (is-sub (is-same (whole-add x z) sum) j) (is-sub first i)) (is-sub (is-add i (is-whole z (i .some))) j) .1 (omega arith))

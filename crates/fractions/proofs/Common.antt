@@ -1,4 +1,4 @@
--- Fractions over a common denominator. `Is x p n d` says that x is (p - n) / d, all naturals. Every operation has its law here, and an
+-- SPEC 2.5, 2.6 over a common denominator. `Is x p n d` says that x is (p - n) / d, all naturals. Every operation has its law here, and an
 -- order or an equation of fractions over one denominator is one of naturals, which `omega` decides; so any finite set of fractions is
 -- brought to one denominator (`common`) and settled there.
 use mathlib.Core.Path.{_≡_, sym, _∙_, ap}

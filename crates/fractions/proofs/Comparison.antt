@@ -1,4 +1,4 @@
--- The order of fractions is total and decidable, and "the same number" is an equivalence, whatever the denominators.
+-- SPEC 2.5: the order of fractions is total and decidable, and "the same number" is an equivalence, whatever the denominators.
 use mathlib.Core.List.{[], _∷_}
 use mathlib.Core.Bool.{true, false}
 use mathlib.Core.Path.{_≡_}

@@ -1,4 +1,4 @@
--- Rounding down and rounding up: what they mean over a denominator, and that each gives one whole number.
+-- SPEC 2.7: rounding down and rounding up, what they mean over a denominator, and that each gives one whole number.
 use mathlib.Core.Path.{_≡_, ap}
 use mathlib.Core.List.{[], _∷_}
 use mathlib.Core.Logic.{_↔_}

@@ -1,4 +1,4 @@
--- The inequality behind every bound on a concave function's values: secants fall. No division and no slopes, but products of naturals.
+-- The inequality behind every bound on a concave function's values: secants fall (SPEC 4.9). Products of naturals, no division, no slopes.
 use mathlib.Core.Path.{_≡_}
 use mathlib.Core.Logic.{_⊎_, inl, inr, ⊎-elim}
 use Prim.Native.Nat.{ℕ, _+_, _*_, _≤_}

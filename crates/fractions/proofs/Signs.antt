@@ -1,4 +1,4 @@
--- Magnitudes and signs apart and back, and sums of numbers of one sign.
+-- SPEC 2.4: magnitudes and signs apart and back, and sums of numbers of one sign.
 use mathlib.Core.Path.{refl}
 use mathlib.Core.List.{[], _∷_}
 use mathlib.Core.Logic.{_⊎_, inl, inr}

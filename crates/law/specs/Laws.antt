@@ -1,18 +1,32 @@
--- "Four laws from source document 001: isotropic line (law 0) and isotropic traction curve (1), kinematic line (2), asymmetric line (3)"
--- (document 01, What the bar knows). Definitions only; nothing is assumed.
+-- The four laws (SPEC 1.3), their numbers and what variables each has, cited by sheet, response, rod and state; definitions only, nothing
+-- is assumed.
 use Prim.Native.Nat.{ℕ}
+use mathlib.Core.Bool.{Bool, true, false, cond}
 use lib.Dec.{eqb}
-use Rattle.refusals.specs.Table.{pick}
 use Rattle.law.specs.declared.Law.{Law}
 use Rattle.law.specs.declared.Law.the-variants.{IsotropicLine, IsotropicCurve, Kinematic, Asymmetric}
 
--- The law's number in document 01, for each case of the enum.
+-- SPEC 1.3: the number of each law,
 abbrev pub numberOf : Law → ℕ
 numberOf IsotropicLine = 0
 numberOf IsotropicCurve = 1
 numberOf Kinematic = 2
 numberOf Asymmetric = 3
 
--- The law that a two-bit number names.
+-- and the law that two bits name. Each of their values is one.
 unfoldable pub lawOf : ℕ → Law
-lawOf number = pick (eqb number 0) IsotropicLine (pick (eqb number 1) IsotropicCurve (pick (eqb number 2) Kinematic Asymmetric))
+lawOf number = cond (eqb number 0) IsotropicLine (cond (eqb number 1) IsotropicCurve (cond (eqb number 2) Kinematic Asymmetric))
+
+-- SPEC 1.3: whether the first variable is an abscissa; under the kinematic law alone it is the centre.
+abbrev pub firstIsAbscissa : Law → Bool
+firstIsAbscissa IsotropicLine = true
+firstIsAbscissa IsotropicCurve = true
+firstIsAbscissa Kinematic = false
+firstIsAbscissa Asymmetric = true
+
+-- SPEC 1.3: whether there is a second variable, the abscissa of the compression side.
+abbrev pub hasSecond : Law → Bool
+hasSecond IsotropicLine = false
+hasSecond IsotropicCurve = false
+hasSecond Kinematic = false
+hasSecond Asymmetric = true

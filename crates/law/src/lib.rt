@@ -1,7 +1,7 @@
-// The four laws, and the two bits that name one in a sheet and in a state.
+// The four laws (SPEC 1.3), and the two bits that name one in a sheet and in a state.
 ghost use mathlib.Core.Path.{_≡_};
 ghost use Prim.Native.Nat.{_<_};
-ghost use Rattle.law.specs.Laws.{lawOf, numberOf};
+ghost use Rattle.law.specs.Laws.{firstIsAbscissa, hasSecond, lawOf, numberOf};
 
 pub enum Law {
     IsotropicLine,
@@ -35,6 +35,30 @@ impl Law {
             Law::IsotropicCurve => 1,
             Law::Kinematic => 2,
             Law::Asymmetric => 3,
+        }
+    }
+
+    // Whether the first variable is an abscissa; else it is the kinematic centre.
+    pub fn first_is_abscissa(self) -> bool
+        ensures { λ r. ⌜ r ≡ firstIsAbscissa self ⌝ }
+    {
+        match self {
+            Law::IsotropicLine => true,
+            Law::IsotropicCurve => true,
+            Law::Kinematic => false,
+            Law::Asymmetric => true,
+        }
+    }
+
+    // Whether the law has a second variable, the compression abscissa.
+    pub fn has_second(self) -> bool
+        ensures { λ r. ⌜ r ≡ hasSecond self ⌝ }
+    {
+        match self {
+            Law::IsotropicLine => false,
+            Law::IsotropicCurve => false,
+            Law::Kinematic => false,
+            Law::Asymmetric => true,
         }
     }
 }

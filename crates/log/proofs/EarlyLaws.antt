@@ -1,4 +1,4 @@
--- "Input that ends early gives 1 or 4" (document 01, Loops on the board).
+-- SPEC 12.7: input that stops in the sheet or in the state.
 use Prim.Native.Nat.{ℕ, _+_, _<_}
 use mathlib.Core.Path.{_≡_, ap, _∙_}
 use mathlib.Core.Bool.{true, or-true}
@@ -11,11 +11,12 @@ use lib.Seq.{take-all}
 use Rattle.refusals.specs.Table.{Refusal, Answer, passes, refused, firstOf}
 use Rattle.refusals.proofs.FirstLaws.{goes-on}
 use Rattle.sheet.specs.declared.Sheet.{Sheet}
+use Rattle.sheet.specs.SheetLayout.{headerLength}
 use Rattle.sheet.specs.Sheets.{lengthWrong, sheetRefusals, sheetOf}
 use Rattle.pair.specs.Pairs.{listRefusals}
-use Rattle.rod.specs.States.{stateLength, stateRefusals, stateOf}
+use Rattle.state.specs.States.{stateLength, stateRefusals, stateOf}
 use Rattle.rod.specs.Against.{againstRefusals}
-use Rattle.tie_rod.specs.Calls.{Ready, readyOf, standingRefusals}
+use Rattle.judge.specs.Standing.{Ready, readyOf, standingRefusals}
 use Rattle.log.specs.Logs.{Told, sheetEnd, sheetPart, statePart, pairsPart, logRefusals, toldBy, toldOf, logTold}
 
 -- A refusal before the first pair: no row, and place 0.
@@ -33,7 +34,7 @@ module _ (log : List ℕ) where
   sheet-early early =
       let all : sheetPart log ≡ log = take-all (sheetEnd log) log (omega arith) in
       let other : eqb (length log) (sheetEnd log) ≡ _ = ne-eqb (length log) (sheetEnd log) (λ e. omega (arith, e)) in
-      let wrong : lengthWrong (sheetPart log) ≡ true = ap lengthWrong all ∙ rw other (or-true (ltb (length log) 14)) in
+      let wrong : lengthWrong (sheetPart log) ≡ true = ap lengthWrong all ∙ rw other (or-true (ltb (length log) headerLength)) in
       rw wrong
 
   -- Input that ends in the state, behind a sheet that passes, gets 4.

@@ -1,4 +1,4 @@
--- The fewest digits that hold a number are its numeral, and a number of few digits has a short one.
+-- SPEC 12.5: the fewest digits that hold a number are its numeral, and a number of few digits has a short one.
 use Prim.Native.Nat.{ℕ, zero, suc, _+_, _-_, _*_, _/_, _%_, _^_, _≤_, _<_}
 use mathlib.Core.Path.{_≡_, refl, sym}
 use mathlib.Core.Bool.{true, false, false≢true}

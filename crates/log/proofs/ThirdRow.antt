@@ -1,4 +1,4 @@
--- Document 01's third row: the bytes of its log have the text that the document prints, computed over the definitions.
+-- The board's third row (SPEC 13.1): the bytes of its log have the text that the papers print for it, computed over the definitions.
 use Prim.Native.Nat.{ℕ}
 use mathlib.Core.Path.{_≡_, refl}
 use mathlib.Core.List.{List, [], _∷_, _++_}
@@ -9,19 +9,21 @@ use Rattle.law.specs.Laws.{lawOf}
 use Rattle.curve.specs.Curve.{rise, height, limitAt}
 use Rattle.curve.specs.Sides.{segmentsOf, curveOf}
 use Rattle.curve.specs.Tangent.{pieces, tangentIn, tangentAt}
-use Rattle.sheet.specs.Sheets.{allBelow, lengthWrong, countsRight, constantsRight, yieldsRight, numbersRight, lengthsRight, tangentsRight, fieldRefusals, sheetRefusals, segmentsIn, sevenPlaces, sheetOf}
+use Rattle.sheet.specs.Sheets.{allBelow, lengthWrong, sheetCountsRight, constantsRight, yieldsRight, headerRight, lengthsRight, tangentsRight, sheetFieldRefusals, sheetRefusals, segmentsIn, sevenPlaces, sheetOf}
 use Rattle.sheet.specs.Thermal.{thermalOf}
 use Rattle.pair.specs.Pairs.{inRange, pairRefusals, listRefusals}
 use Rattle.row.specs.Rows.{rowBytes}
 use Rattle.flow.specs.Stored.{isotropicStored, sideStored}
 use Rattle.response.specs.Response.{isotropicMoved, outcomeUnder}
 use Rattle.rod.specs.Against.{againstRefusals, belongs, isotropicBelongs}
-use Rattle.rod.specs.Limits.{withinLimit}
-use Rattle.rod.specs.States.{stateRefusals}
+use Rattle.rod.specs.WithinLimit.{withinLimit}
+use Rattle.state.specs.States.{stateRefusals}
 use Rattle.rod.specs.Steps.{trialOf, advanceOf, strainLeaves, leavesRange, stepRefusals}
-use Rattle.tie_rod.specs.Calls.{standingRefusals}
-use Rattle.tie_rod.specs.Pairs.{pairAnswer, afterPair, walkedFrom, walked}
-use Rattle.rod.specs.States as states
+use Rattle.carry.specs.Walk.{pairTable, pairAnswer, walk, rowsBytes}
+use Rattle.judge.specs.Standing.{standingRefusals}
+use Rattle.tie_rod.specs.Calls as calls
+use Rattle.state.specs.States as states
+use Rattle.rod.specs.InRange as rods
 use Rattle.log.specs.Lines.{lineOf, linesFrom, linesOf, lastLine}
 use Rattle.log.specs.Texts.{ascii, digitsWithin, numeral, whole}
 use Rattle.log.specs.Logs.{logRefusals, toldBy, toldOf, textOf}
@@ -38,5 +40,5 @@ pairs = 0 ∷ 22 ∷ 227 ∷ 96 ∷ 0 ∷ 200 ∷ 31 ∷ 210 ∷ 57 ∷ 64 ∷ 0
 
 pub third-row : textOf (sheet ++ state ++ pairs)
     ≡ ascii "pair stress plastic tangent yielded\n1 201000000000 99000000000 2000 1\n2 -202980000000 -97020000000 2000 1\nend 2\n"
-unfolding textOf toldOf toldBy logRefusals linesOf linesFrom lineOf lastLine numeral digitsWithin whole firstOf field twos bitsOf widths packed bytesOf lawOf rise height limitAt segmentsOf curveOf pieces tangentIn tangentAt allBelow lengthWrong countsRight constantsRight yieldsRight numbersRight lengthsRight tangentsRight fieldRefusals sheetRefusals segmentsIn sevenPlaces sheetOf thermalOf inRange pairRefusals listRefusals rowBytes isotropicStored sideStored isotropicMoved outcomeUnder againstRefusals belongs isotropicBelongs withinLimit stateRefusals trialOf advanceOf strainLeaves leavesRange stepRefusals standingRefusals pairAnswer afterPair walkedFrom walked states.fieldRefusals states.inRange
+unfolding textOf toldOf toldBy logRefusals linesOf linesFrom lineOf lastLine numeral digitsWithin whole firstOf field twos bitsOf widths packed bytesOf lawOf rise height limitAt segmentsOf curveOf pieces tangentIn tangentAt allBelow lengthWrong sheetCountsRight constantsRight yieldsRight headerRight lengthsRight tangentsRight sheetFieldRefusals sheetRefusals segmentsIn sevenPlaces sheetOf thermalOf inRange pairRefusals listRefusals rowBytes isotropicStored sideStored isotropicMoved outcomeUnder againstRefusals belongs isotropicBelongs withinLimit stateRefusals trialOf advanceOf strainLeaves leavesRange stepRefusals standingRefusals pairTable pairAnswer walk rowsBytes calls.pieces states.stateFieldRefusals rods.inRange
 third-row = refl

@@ -1,4 +1,5 @@
--- Text in bytes: "all numbers are whole and written in decimal" (document 01, Units). Definitions only; nothing is assumed.
+-- Texts and decimal numbers in bytes (SPEC 12.5), and a text appended to a buffer (SPEC 12.10), cited by Lines and the contracts of this
+-- crate; definitions only, nothing is assumed.
 use Prim.Native.Nat.{ℕ, zero, suc, _+_, _/_, _%_}
 use Prim.Native.Char.{code}
 use Prim.Native.String as string
@@ -11,16 +12,16 @@ use lib.IntN.{ℤ, pos, negsuc}
 use lib.Dec.{ltb}
 use Rattle.bits.specs.Layout.{put}
 
--- The bytes of a text, one for each of its letters.
+-- SPEC 12.5: the bytes of a text in ASCII, one for each of its letters.
 abbrev pub ascii : String → List ℕ
 ascii string.[] = []
 ascii (string._∷_ c rest) = code c ∷ ascii rest
 
--- The digits 0 to 9.
+-- SPEC 12.5: the digits 0 to 9.
 abbrev pub digit : ℕ → ℕ
 digit d = 48 + d
 
--- A number below ten is one digit; any other is the digits of its tenth part, and then its last one.
+-- SPEC 12.5: a number below ten is one digit; any other is the digits of its tenth part, and then its last one. So none leads with a zero.
 abbrev pub digitsBy : (short : Bool) → ℕ → (tenth : ℕ → List ℕ) → List ℕ
 digitsBy true n tenth = digit n ∷ []
 digitsBy false n tenth = tenth (n / 10) ++ (digit (n % 10) ∷ [])
@@ -34,12 +35,12 @@ digitsWithin (suc most) n = digitsBy (ltb n 10) n (digitsWithin most)
 unfoldable pub numeral : ℕ → List ℕ
 numeral n = digitsWithin (suc n) n
 
--- A whole number: a minus sign below zero, and its magnitude; `negsuc n` is -(n + 1).
+-- SPEC 12.5: a whole number: a minus sign below zero, and its magnitude; `negsuc n` is -(n + 1).
 unfoldable pub whole : ℤ → List ℕ
 whole (pos n) = numeral n
 whole (negsuc n) = ascii "-" ++ numeral (suc n)
 
--- What appending a text at a place of a buffer leaves there: the text, every other byte as it was, and the place behind the text.
+-- SPEC 12.10: what appending a text at a place of a buffer leaves: the text there, every other byte as it was, and the place behind it.
 pub record Appended (text old : List ℕ) (at : ℕ) (new : List ℕ) (end : ℕ) : Type 0 where
   pub written : new ≡ put old at text
   pub ends : end ≡ at + length text

@@ -1,4 +1,5 @@
-// Standard input and output. The C library's read and write say nothing of the bytes, so that these functions have no equation.
+// Standard input and output (SPEC 12.8, 12.10). The C library's read and write say nothing of the bytes, so these functions have no
+// equation.
 use crate::walk;
 ghost use mathlib.Core.Path.{_≡_};
 ghost use lib.ListN.{length};
@@ -17,8 +18,8 @@ pub fn print_text(log: &[u8]) {
     io::write_all(libc::STDOUT_FILENO, &out[..count]);
 }
 
-// Prints the text of the log on standard input. No log has more than 98 + 37 + 24,576 bytes; of longer input the first 65,536 are read,
-// whose text is that of all of it (`text-of-cut`): the pairs are above 4,096 anyway.
+// Prints the text of the log on standard input, of which the first 65,536 bytes are read: the text of longer input is theirs (`text-of-cut`),
+// since the pairs are above 4,096 anyway.
 pub fn walk_input() {
     let mut input = io::large_buffer();
     let count = io::read_full(libc::STDIN_FILENO, &mut input);

@@ -1,4 +1,4 @@
-// Texts and numbers, appended one behind another to a lent buffer.
+// Texts and numbers (SPEC 12.5), appended one behind another to a lent buffer.
 use units::Grain;
 ghost use Prim.Native.Nat.{_+_, _≤_};
 ghost use mathlib.Core.List.{_++_};

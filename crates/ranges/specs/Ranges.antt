@@ -1,57 +1,58 @@
--- The ranges of document 01, "Bit layouts": each number has one name here, and every layout, condition and refusal cites it.
--- Definitions only; nothing is assumed.
+-- The bounds of fields and quantities (SPEC 3.6), each under one name, which layouts, conditions and refusals cite; definitions only,
+-- nothing is assumed.
 use Prim.Native.Nat.{ℕ}
 use mathlib.Core.Bool.{Bool}
 use lib.IntN.{ℤ, pos, negℤ}
 use Rattle.bits.specs.Field.{withinℤ}
 
--- "within ±m"
+-- SPEC 3.6: from -m to m.
 abbrev pub around : ℕ → ℤ → Bool
 around m z = withinℤ (negℤ (pos m)) (pos m) z
 
--- "E 1 to 400,000"
+-- SPEC 3.7: the greatest E, in MPa.
 abbrev pub mostModulus : ℕ
 mostModulus = 400000
 
--- "a 0 to 10,000"
+-- SPEC 3.7: the greatest expansion.
 abbrev pub mostExpansion : ℕ
 mostExpansion = 10000
 
--- "every temperature, here and below, −2,000 to 20,000"
+-- SPEC 3.7: the range of a temperature, in sheet, state and pair alike.
 abbrev pub temperatureRight : ℤ → Bool
 temperatureRight t = withinℤ (negℤ (pos 2000)) (pos 20000) t
 
--- "yields 1 to 10,000,000", "in 10⁻³ MPa, one being 10⁶ grains"
+-- SPEC 3.7: the greatest yield in a sheet, in 10⁻³ MPa,
 abbrev pub mostYield : ℕ
 mostYield = 10000000
 
+-- and the grains that one of these is (SPEC 3.9).
 abbrev pub grains : ℕ
 grains = 1000000
 
--- "Lengths 1 to 10⁸"
+-- SPEC 3.8: the greatest length of a segment.
 abbrev pub mostLength : ℕ
 mostLength = 100000000
 
--- "Strain within ±10⁸"
+-- SPEC 3.11: the greatest magnitude of a strain.
 abbrev pub mostStrain : ℕ
 mostStrain = 100000000
 
--- "strain change 29 (within ±2×10⁸)"
+-- SPEC 3.12: the greatest magnitude of a change of strain.
 abbrev pub mostChange : ℕ
 mostChange = 200000000
 
--- "stress and X within ±10¹⁴"
+-- SPEC 3.11: the greatest magnitude of a stress or a centre.
 abbrev pub mostStress : ℕ
 mostStress = 100000000000000
 
--- "abscissas 0 to 10¹⁷"
+-- SPEC 3.11: the greatest abscissa.
 abbrev pub mostAbscissa : ℕ
 mostAbscissa = 100000000000000000
 
--- "above 4,096 pairs"
+-- SPEC 3.13: the pairs of the longest list.
 abbrev pub mostPairs : ℕ
 mostPairs = 4096
 
--- "pairs n 32, yielded pairs k 32 (n, k unsigned)": the greatest number of pairs.
+-- SPEC 3.11: the greatest n.
 abbrev pub mostCount : ℕ
 mostCount = 4294967295

@@ -1,4 +1,4 @@
-// The numbers of document 01 that bound a field or a quantity, each under one name. `specs/Ranges.antt` has the same for contracts.
+// The numbers that bound a field or a quantity (SPEC 3.6), each under one name. `specs/Ranges.antt` has the same for contracts.
 
 // Moduli and expansions.
 pub const MOST_MODULUS: u64 = 400000;

@@ -1,11 +1,11 @@
--- What an answer says of the table that it comes from.
+-- What an answer says of the table that it comes from (SPEC 8.1).
 use Prim.Native.Nat.{ℕ}
 use mathlib.Core.Path.{_≡_, refl, sym, ap, _∙_}
-use mathlib.Core.Bool.{Bool, true, false, _&&_, _||_, false≢true}
-use mathlib.Core.List.{List, [], _∷_, _++_}
+use mathlib.Core.Bool.{Bool, true, false, _&&_, _||_, false≢true, cond}
+use mathlib.Core.List.{List, [], _∷_, _++_, append-nil}
 use mathlib.Core.Logic.{inl, inr}
 use native.Mathlib.Omega.{arith}
-use Rattle.refusals.specs.Table.{Refusal, refusal, Answer, passes, refused, firstOf, pick, NoneApplies, Given, Decided, Follows}
+use Rattle.refusals.specs.Table.{Refusal, refusal, Answer, passes, refused, firstOf, NoneApplies, Given, Decided, Follows}
 
 pub refused-is-not-passes : {A : Type 0} (n : ℕ) (x : A) → refused n ≡ passes x → ⊥
 refused-is-not-passes n x e = let z : _≡_ {A = ℕ} 0 1 = cc in omega arith
@@ -42,7 +42,7 @@ unfolding firstOf
 answer-number P [] v {n} all e = absurd (refused-is-not-passes n v (sym e))
 answer-number P (r ∷ rest) v {n} (right, all) e = by-line (r .applies) e (answer-number P rest v all)
   where
-    by-line : (t : Bool) → pick t (refused (r .number)) (firstOf rest v) ≡ refused n → (firstOf rest v ≡ refused n → P n) → P n
+    by-line : (t : Bool) → cond t (refused (r .number)) (firstOf rest v) ≡ refused n → (firstOf rest v ≡ refused n → P n) → P n
     by-line true e onward = let same : r .number ≡ n = same-refused (r .number) n e in rw same at right
     by-line false e onward = onward e
 
@@ -68,8 +68,8 @@ unfolding firstOf
 stops-first [] second v w n e = absurd (refused-is-not-passes n v (sym e))
 stops-first (r ∷ rest) second v w n e = by-line (r .applies) e (stops-first rest second v w n)
   where
-    by-line : (t : Bool) → pick t (refused (r .number)) (firstOf rest v) ≡ refused n
-        → (firstOf rest v ≡ refused n → firstOf (rest ++ second) w ≡ refused n) → pick t (refused (r .number)) (firstOf (rest ++ second) w) ≡ refused n
+    by-line : (t : Bool) → cond t (refused (r .number)) (firstOf rest v) ≡ refused n
+        → (firstOf rest v ≡ refused n → firstOf (rest ++ second) w ≡ refused n) → cond t (refused (r .number)) (firstOf (rest ++ second) w) ≡ refused n
     by-line true e onward = ap refused (same-refused (r .number) n e)
     by-line false e onward = onward e
 
@@ -78,12 +78,33 @@ unfolding firstOf
 goes-on [] second v w e = refl
 goes-on (r ∷ rest) second v w {x} e = by-line (r .applies) e (goes-on rest second v w)
   where
-    by-line : (t : Bool) → pick t (refused (r .number)) (firstOf rest v) ≡ passes x
-        → (firstOf rest v ≡ passes x → firstOf (rest ++ second) w ≡ firstOf second w) → pick t (refused (r .number)) (firstOf (rest ++ second) w) ≡ firstOf second w
+    by-line : (t : Bool) → cond t (refused (r .number)) (firstOf rest v) ≡ passes x
+        → (firstOf rest v ≡ passes x → firstOf (rest ++ second) w ≡ firstOf second w) → cond t (refused (r .number)) (firstOf (rest ++ second) w) ≡ firstOf second w
     by-line true e onward = absurd (refused-is-not-passes (r .number) x e)
     by-line false e onward = onward e
 
--- ---- Under the condition given there and under no other
+-- Where two tables pass, each does.
+pub both-pass : {A B : Type 0} (first second : List Refusal) (v : A) (w : B) {x : B} → firstOf (first ++ second) w ≡ passes x
+    → (firstOf first v ≡ passes v) × (firstOf second w ≡ passes x)
+unfolding firstOf
+both-pass [] second v w e = (refl, e)
+both-pass (r ∷ rest) second v w {x} e = by-line (r .applies) e (both-pass rest second v w)
+  where
+    by-line : (t : Bool) → cond t (refused (r .number)) (firstOf (rest ++ second) w) ≡ passes x
+        → (firstOf (rest ++ second) w ≡ passes x → (firstOf rest v ≡ passes v) × (firstOf second w ≡ passes x))
+        → (cond t (refused (r .number)) (firstOf rest v) ≡ passes v) × (firstOf second w ≡ passes x)
+    by-line true e onward = absurd (refused-is-not-passes (r .number) x e)
+    by-line false e onward = onward e
+
+-- Whether a table refuses doesn't depend on the value.
+pub refused-anyhow : {A B : Type 0} (table : List Refusal) (v : A) (w : B) (n : ℕ) → firstOf table v ≡ refused n → firstOf table w ≡ refused n
+refused-anyhow table v w n e = ap (λ (t : List Refusal). firstOf t w) (sym (append-nil table)) ∙ stops-first table [] v w n e
+
+pub passes-anyhow : {A B : Type 0} (table : List Refusal) (v : A) (w : B) {x : A} → firstOf table v ≡ passes x → firstOf table w ≡ passes w
+unfolding firstOf
+passes-anyhow table v w e = ap (λ (t : List Refusal). firstOf t w) (sym (append-nil table)) ∙ goes-on table [] v w e
+
+-- ---- Answer and table say the same
 
 pub none-passes : {A : Type 0} (table : List Refusal) (v : A) → NoneApplies table → firstOf table v ≡ passes v
 unfolding firstOf
@@ -108,7 +129,7 @@ unfolding firstOf
 refused-given [] v {n} e = absurd (refused-is-not-passes n v (sym e))
 refused-given (r ∷ rest) v {n} e = by-line (r .applies) refl e (refused-given rest v)
   where
-    by-line : (t : Bool) → r .applies ≡ t → pick t (refused (r .number)) (firstOf rest v) ≡ refused n → (firstOf rest v ≡ refused n → Given rest n)
+    by-line : (t : Bool) → r .applies ≡ t → cond t (refused (r .number)) (firstOf rest v) ≡ refused n → (firstOf rest v ≡ refused n → Given rest n)
         → Given (r ∷ rest) n
     by-line true this e onward =
         record { before = []; line = r; after = rest; in-order = refl; none-before = tt; applies = this; numbered = same-refused (r .number) n e }
@@ -140,7 +161,7 @@ decides table = by-answer (firstOf table tt) refl
     by-answer (passes v) e = inr (passes-none-applies table tt e)
     by-answer (refused n) e = inl (n, refused-given table tt e)
 
--- The first that applies is answered under its condition and under no other.
+-- SPEC 9.11: what `firstOf` answers follows its table, both ways.
 pub first-follows : {A : Type 0} (table : List Refusal) (v : A) → Follows table v (firstOf table v)
 first-follows table v =
     record {

@@ -1,1 +1,1 @@
-// Definitions and laws only: tables of refusals, and the first refusal that applies.
+// Definitions and laws only: tables of refusals, and which of their lines is answered (SPEC 8.1).

@@ -1,11 +1,10 @@
 -- How the sign and the magnitude of a trial make a law's answer: laws over the definitions, for the proofs of the functions.
 use Prim.Native.Nat.{ℕ, _+_, _-_, _*_, _/_, _≤_, _<_}
 use mathlib.Core.Path.{_≡_, refl, sym, ap}
-use mathlib.Core.Bool.{Bool, true, false, true≢false}
+use mathlib.Core.Bool.{Bool, true, false, true≢false, cond}
 use lib.IntN.{ℤ, pos, negsuc, natAbs, _+ℤ_, _-ℤ_}
 use borrow.Author.Tests.{le-leb, lt-leb, ltb-true, ltb-false}
 use lib.Dec.{ltb}
-use Rattle.refusals.specs.Table.{pick}
 use Rattle.fractions.specs.Fraction.{signed}
 use Rattle.units.specs.declared.Magnitude.{Magnitude}
 use Rattle.units.specs.declared.Modulus.{Modulus}
@@ -16,11 +15,11 @@ use Rattle.curve.specs.Curve.{limitAt}
 use Rattle.curve.specs.Sides.{curveOf}
 use Rattle.flow.specs.Stored.{sideStored, isotropicStored, kinematicStored}
 use Rattle.response.specs.declared.Flowed.{Flowed}
-use Rattle.response.specs.declared.Response.the-variants.{Elastic}
+use Rattle.response.specs.declared.Motion.the-variants as motions
 use Rattle.response.specs.declared.SideFlow.{SideFlow}
-use Rattle.response.specs.declared.SideFlow.the-variants.{Still, Moved}
+use Rattle.response.specs.declared.SideFlow.the-variants.{Still, Grown}
 use Rattle.response.specs.Response.{isotropicMoved, kinematicMoved, movedMeaning}
-use Rattle.response.specs.Parts.{flowAt, flowToward, sideFlow}
+use Rattle.response.specs.SideFlows.{flowAt, flowToward, sideFlow}
 
 pub sign-put-back : (s : ℤ) (n : ℕ) → withSign (isNeg s) n ≡ signed s (pos n)
 sign-put-back (pos m) n = refl
@@ -37,7 +36,7 @@ not-negative (negsuc n) h = absurd (true≢false h)
 -- A flow in either direction.
 pub flow-meaning : (E : ℕ) (variable trial : ℤ) (negative : Bool) (f : Flowed)
     → movedMeaning E variable trial (flowToward negative f)
-    ≡ record { yielded = true; branch = pick negative 2 1; stress = f .stress .0; variable = f .variable .0; tangent = f .tangent .0 }
+    ≡ record { yielded = true; branch = cond negative 2 1; stress = f .stress .0; variable = f .variable .0; tangent = f .tangent .0 }
 unfolding movedMeaning
 flow-meaning E variable trial true f = refl
 flow-meaning E variable trial false f = refl
@@ -45,24 +44,24 @@ flow-meaning E variable trial false f = refl
 -- Whether a side moved, and where to, as its answer tells.
 abbrev hasMoved : SideFlow → Bool
 hasMoved Still = false
-hasMoved (Moved a) = true
+hasMoved (Grown a) = true
 
 abbrev movedTo : SideFlow → Magnitude
 movedTo Still = magnitude 0
-movedTo (Moved a) = a
+movedTo (Grown a) = a
 
-told-still : (t : Bool) (a : Magnitude) → pick t (Moved a) Still ≡ Still → t ≡ false
+told-still : (t : Bool) (a : Magnitude) → cond t (Grown a) Still ≡ Still → t ≡ false
 told-still true a e = ap hasMoved e
 told-still false a e = refl
 
-told-moved : (t : Bool) (a : Magnitude) {b : Magnitude} → pick t (Moved a) Still ≡ Moved b → (t ≡ true) × (a ≡ b)
+told-moved : (t : Bool) (a : Magnitude) {b : Magnitude} → cond t (Grown a) Still ≡ Grown b → (t ≡ true) × (a ≡ b)
 told-moved true a e = (refl, ap movedTo e)
 told-moved false a e = absurd (true≢false (sym (ap hasMoved e)))
 
 pub side-still : (abscissa limit trial : ℕ) → sideFlow abscissa limit trial ≡ Still → trial ≤ limit
 side-still abscissa limit trial e = ltb-false limit trial (told-still (ltb limit trial) (magnitude (abscissa + (trial - limit))) e)
 
-pub side-moved : (abscissa limit trial : ℕ) {a : Magnitude} → sideFlow abscissa limit trial ≡ Moved a
+pub side-moved : (abscissa limit trial : ℕ) {a : Magnitude} → sideFlow abscissa limit trial ≡ Grown a
     → (limit < trial) × (magnitude (abscissa + (trial - limit)) ≡ a)
 side-moved abscissa limit trial e =
     let told = told-moved (ltb limit trial) (magnitude (abscissa + (trial - limit))) e in
@@ -74,7 +73,7 @@ module _ (side : Side) (e : Modulus) (abscissa trial : ℤ) where
   limit = limitAt (e .0) (curveOf side) (natAbs abscissa)
 
   pub within-limit-elastic : isNeg abscissa ≡ false → natAbs trial ≤ limit
-      → movedMeaning (e .0) abscissa trial Elastic ≡ isotropicMoved (e .0) (curveOf side) abscissa trial
+      → movedMeaning (e .0) abscissa trial motions.Still ≡ isotropicMoved (e .0) (curveOf side) abscissa trial
   unfolding movedMeaning isotropicMoved isotropicStored sideStored
   within-limit-elastic h within = rw (le-leb (natAbs trial) limit within, own-sign trial, not-negative abscissa h)
 
@@ -95,7 +94,7 @@ module _ (E tangent yield : ℕ) (centre trial : ℤ) where
   abbrev distance : ℤ
   distance = trial -ℤ centre
 
-  pub within-radius-elastic : natAbs distance ≤ yield → movedMeaning E centre trial Elastic ≡ kinematicMoved E tangent yield centre trial
+  pub within-radius-elastic : natAbs distance ≤ yield → movedMeaning E centre trial motions.Still ≡ kinematicMoved E tangent yield centre trial
   unfolding movedMeaning kinematicMoved kinematicStored
   within-radius-elastic h = rw (le-leb (natAbs distance) yield h)
 

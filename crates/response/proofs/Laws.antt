@@ -1,5 +1,5 @@
--- For every sheet that passed and every state whose abscissas are not below their yields, what a pair leaves is the rounding of the only
--- solution of the law's conditions.
+-- SPEC 6.7, 7.1: for every sheet that passes and every state with no abscissa below its yield, what a pair leaves is the rounding of the
+-- one solution that the conditions have.
 use Prim.Native.Nat.{ℕ, _≤_, _<_}
 use mathlib.Core.Path.{_≡_, refl, sym, ap, _∙_}
 use mathlib.Core.Bool.{true, false}

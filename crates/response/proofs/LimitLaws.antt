@@ -1,7 +1,7 @@
 -- The limits that a step is handed, and those after it.
 use Prim.Native.Nat.{ℕ, zero, suc, _-_, _*_, _≤_, _<_, min}
 use mathlib.Core.Path.{_≡_, refl, sym, ap, _∙_}
-use mathlib.Core.Bool.{Bool, true, false, true≢false}
+use mathlib.Core.Bool.{Bool, true, false, true≢false, cond}
 use mathlib.Core.Logic.{inl, inr}
 use native.Mathlib.Nat.{le-div-iff-mul-le, mul-le-mul}
 use native.Mathlib.Omega.{arith}
@@ -12,7 +12,6 @@ use Rattle.fractions.specs.Fraction.{signed}
 use Rattle.fractions.proofs.Cases.{cond-cases}
 use Rattle.law.specs.declared.Law.{Law}
 use Rattle.law.specs.declared.Law.the-variants.{IsotropicLine, IsotropicCurve, Kinematic, Asymmetric}
-use Rattle.refusals.specs.Table.{pick}
 use Rattle.units.specs.declared.Magnitude.{Magnitude}
 use Rattle.units.specs.Kinds.{magnitude}
 use Rattle.units.specs.Signs.{isNeg}
@@ -104,7 +103,7 @@ negative-stress E side abscissa n some yields e =
 -- The first limit after a pair, beside any other,
 first-kept : (E : ℕ) (side : Side) (abscissa trial : ℤ) (other : Magnitude) (t : Bool) → let m = isotropicMoved E (curveOf side) abscissa trial in
     m .yielded ≡ t
-    → limits (limitOn E side (m .variable)) other ≡ pick t (limits (magnitude (natAbs (m .stress))) other) (limits (limitOn E side abscissa) other)
+    → limits (limitOn E side (m .variable)) other ≡ cond t (limits (magnitude (natAbs (m .stress))) other) (limits (limitOn E side abscissa) other)
 first-kept E side abscissa trial other true e = ap (λ (m : Magnitude). limits m other) (flowed-limit E side abscissa trial e)
 first-kept E side abscissa trial other false e = ap (λ (m : Magnitude). limits m other) (still-limit E side abscissa trial e)
 
@@ -113,11 +112,11 @@ second-kept : (E : ℕ) (side : Side) (abscissa : ℤ) (n : ℕ) (other another 
     → let m = isotropicMoved E (curveOf side) abscissa (negsuc n) in
     m .yielded ≡ t
     → limits other (limitOn E side (m .variable))
-    ≡ pick t (pick (isNeg (m .stress)) (limits other (magnitude (natAbs (m .stress)))) (limits (magnitude (natAbs (m .stress))) another)) (limits other (limitOn E side abscissa))
+    ≡ cond t (cond (isNeg (m .stress)) (limits other (magnitude (natAbs (m .stress)))) (limits (magnitude (natAbs (m .stress))) another)) (limits other (limitOn E side abscissa))
 second-kept E side abscissa n other another true some yields e =
     let m = isotropicMoved E (curveOf side) abscissa (negsuc n) in
     ap (limits other) (flowed-limit E side abscissa (negsuc n) e)
-    ∙ ap (λ (b : Bool). pick b (limits other (magnitude (natAbs (m .stress)))) (limits (magnitude (natAbs (m .stress))) another)) (sym (negative-stress E side abscissa n some yields e))
+    ∙ ap (λ (b : Bool). cond b (limits other (magnitude (natAbs (m .stress)))) (limits (magnitude (natAbs (m .stress))) another)) (sym (negative-stress E side abscissa n some yields e))
 second-kept E side abscissa n other another false some yields e = ap (limits other) (still-limit E side abscissa (negsuc n) e)
 
 -- The limits after a pair.

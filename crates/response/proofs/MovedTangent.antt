@@ -1,12 +1,11 @@
 -- The tangent that a side leaves: E where it stayed, and where it flowed that of the segment which holds the stored abscissa.
 use Prim.Native.Nat.{ℕ, suc, _≤_}
 use mathlib.Core.Path.{_≡_, refl}
-use mathlib.Core.Bool.{Bool, true, false}
+use mathlib.Core.Bool.{Bool, true, false, cond}
 use native.Mathlib.Decide.{decLe}
 use native.Mathlib.Omega.{arith}
 use borrow.Author.Tests.{le-leb, lt-leb}
 use lib.IntN.{ℤ, natAbs}
-use Rattle.refusals.specs.Table.{pick}
 use Rattle.units.specs.Signs.{isNeg}
 use Rattle.curve.specs.Curve.{Curve, limitAt}
 use Rattle.curve.specs.Tangent.{tangentAt}
@@ -16,7 +15,7 @@ use Rattle.response.specs.Response.{branchOf, isotropicMoved}
 use Rattle.response.specs.Solved.{SegmentTangent}
 
 -- Branch 0 is no flow, and every other one is.
-some-branch : (negative : Bool) → pick {A = ℕ} negative 2 1 ≡ 0 → ⊥
+some-branch : (negative : Bool) → cond {A = ℕ} negative 2 1 ≡ 0 → ⊥
 some-branch true e = omega (arith, e)
 some-branch false e = omega (arith, e)
 

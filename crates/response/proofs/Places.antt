@@ -1,26 +1,27 @@
 -- The variable that moved stands in its place: a law's answer on one variable is its answer for the state.
 use Prim.Native.Nat.{ℕ}
-use mathlib.Core.Path.{_≡_, refl, sym, ap}
+use mathlib.Core.Path.{_≡_, refl, sym, ap, _∙_}
 use mathlib.Core.List.{[], _∷_}
-use mathlib.Core.Bool.{Bool, true, false}
+use mathlib.Core.Bool.{Bool, true, false, cond}
 use mathlib.Core.Logic.{_⊎_, inl, inr}
 use native.Mathlib.Omega.{arith}
 use lib.IntN.{ℤ}
 use denote.Enum.Declared.{tagOf}
 use types.Run.{OneOf}
-use Rattle.refusals.specs.Table.{pick}
 use Rattle.law.specs.declared.Law.{Law}
 use Rattle.law.specs.declared.Law.the-variants.{IsotropicLine, IsotropicCurve, Kinematic, Asymmetric}
+use Rattle.law.specs.Laws.{hasSecond}
 use Rattle.law.proofs.Law.{the-type}
+use Rattle.units.specs.declared.Grain.{Grain}
 use Rattle.units.specs.Signs.{isNeg}
 use Rattle.curve.specs.Curve.{Curve}
 use Rattle.curve.specs.Sides.{curveOf}
 use Rattle.sheet.specs.declared.Sheet.{Sheet}
 use Rattle.sheet.specs.Sound.{tangentOf}
-use Rattle.response.specs.declared.Response.{Response}
-use Rattle.response.specs.declared.Response.the-variants.{Elastic, Tension, Compression}
-use Rattle.response.specs.Response.{branchOf, Moved, isotropicMoved, kinematicMoved, inFirst, inSecond, asymmetricOutcome, outcomeUnder, outcomeOf, movedMeaning, responseMeaning, AbscissaRight, VariablesRight}
-use Rattle.response.specs.Parts.{sideBy}
+use Rattle.response.specs.declared.Motion.{Motion}
+use Rattle.response.specs.declared.Motion.the-variants.{Still, Tension, Compression}
+use Rattle.response.specs.Response.{branchOf, Moved, isotropicMoved, kinematicMoved, inFirst, inSecond, asymmetricOutcome, outcomeUnder, outcomeOf, movedMeaning, settledBy, responseMeaning, AbscissaRight, VariablesRight}
+use Rattle.response.specs.SideFlows.{sideBy}
 
 -- Law 0 or 1.
 abbrev pub IsIsotropic : Law → Type 0
@@ -40,47 +41,58 @@ first-is-abscissa first second (inl is) v = rw is at v
 first-is-abscissa first second (inr is) v = rw is at v
 
 -- The branch of a flow goes by the trial's sign.
-branch-of-sign : (s : ℤ) (yielded negative : Bool) → isNeg s ≡ negative → branchOf yielded s ≡ pick negative 1 2 → ⊥
+branch-of-sign : (s : ℤ) (yielded negative : Bool) → isNeg s ≡ negative → branchOf yielded s ≡ cond negative 1 2 → ⊥
 branch-of-sign s false true h e = omega (arith, e)
 branch-of-sign s false false h e = omega (arith, e)
 branch-of-sign s true true h e = omega (arith, rw h at e)
 branch-of-sign s true false h e = omega (arith, rw h at e)
 
 pub isotropic-branch : (E : ℕ) (curve : Curve) (abscissa trial : ℤ) (negative : Bool) → isNeg trial ≡ negative
-    → isotropicMoved E curve abscissa trial .branch ≡ pick negative 1 2 → ⊥
+    → isotropicMoved E curve abscissa trial .branch ≡ cond negative 1 2 → ⊥
 unfolding isotropicMoved
 isotropic-branch E curve abscissa trial negative h e = branch-of-sign trial (isotropicMoved E curve abscissa trial .yielded) negative h e
 
-module _ (h : Sheet) (first second trial : ℤ) where
+module _ (h : Sheet) (first second trial : Grain) where
   abbrev E : ℕ
   E = h .modulus .0
 
-  pub isotropic-response : (r : Response) → IsIsotropic (h .law)
-      → movedMeaning E first trial r ≡ isotropicMoved E (curveOf (h .tension)) first trial
-      → responseMeaning h first second trial r ≡ outcomeOf h first second trial
-  unfolding responseMeaning outcomeUnder
-  isotropic-response r (inl is) e = rw is (ap (λ (m : Moved). inFirst m second) e)
-  isotropic-response r (inr is) e = rw is (ap (λ (m : Moved). inFirst m second) e)
+  -- The answer that a motion of the first variable makes, where the law has no second,
+  in-first : (r : Motion) → hasSecond (h .law) ≡ false
+      → responseMeaning (settledBy h first second trial r) ≡ inFirst (movedMeaning E (first .0) (trial .0) r) (second .0)
+  unfolding movedMeaning
+  in-first Still e = refl
+  in-first (Tension f) e = refl
+  in-first (Compression f) e = rw e
 
-  pub kinematic-response : (r : Response) → h .law ≡ Kinematic
-      → movedMeaning E first trial r ≡ kinematicMoved E (tangentOf (h .tension) 0) (h .tension .«yield_stress» .0) first trial
-      → responseMeaning h first second trial r ≡ outcomeOf h first second trial
-  unfolding responseMeaning outcomeUnder
-  kinematic-response r is e = rw is (ap (λ (m : Moved). inFirst m second) e)
+  no-second : {law : Law} → h .law ≡ law → hasSecond law ≡ false → hasSecond (h .law) ≡ false
+  no-second is e = ap hasSecond is ∙ e
+
+  pub isotropic-response : (r : Motion) → IsIsotropic (h .law)
+      → movedMeaning E (first .0) (trial .0) r ≡ isotropicMoved E (curveOf (h .tension)) (first .0) (trial .0)
+      → responseMeaning (settledBy h first second trial r) ≡ outcomeOf h (first .0) (second .0) (trial .0)
+  unfolding outcomeUnder
+  isotropic-response r (inl is) e = in-first r (no-second is refl) ∙ rw is (ap (λ (m : Moved). inFirst m (second .0)) e)
+  isotropic-response r (inr is) e = in-first r (no-second is refl) ∙ rw is (ap (λ (m : Moved). inFirst m (second .0)) e)
+
+  pub kinematic-response : (r : Motion) → h .law ≡ Kinematic
+      → movedMeaning E (first .0) (trial .0) r ≡ kinematicMoved E (tangentOf (h .tension) 0) (h .tension .«yield_stress» .0) (first .0) (trial .0)
+      → responseMeaning (settledBy h first second trial r) ≡ outcomeOf h (first .0) (second .0) (trial .0)
+  unfolding outcomeUnder
+  kinematic-response r is e = in-first r (no-second is refl) ∙ rw is (ap (λ (m : Moved). inFirst m (second .0)) e)
 
   -- Law 3 answers on the side of the trial's sign.
   abbrev variableOf : Bool → ℤ
-  variableOf negative = pick negative second first
+  variableOf negative = cond negative (second .0) (first .0)
 
-  pub asymmetric-response : (r : Response) (negative : Bool) → h .law ≡ Asymmetric → isNeg trial ≡ negative
-      → movedMeaning E (variableOf negative) trial r ≡ isotropicMoved E (curveOf (sideBy negative h)) (variableOf negative) trial
-      → responseMeaning h first second trial r ≡ outcomeOf h first second trial
-  unfolding responseMeaning outcomeUnder asymmetricOutcome movedMeaning
-  asymmetric-response Elastic true is s e = rw (is, s) (ap (inSecond first) e)
+  pub asymmetric-response : (r : Motion) (negative : Bool) → h .law ≡ Asymmetric → isNeg (trial .0) ≡ negative
+      → movedMeaning E (variableOf negative) (trial .0) r ≡ isotropicMoved E (curveOf (sideBy negative h)) (variableOf negative) (trial .0)
+      → responseMeaning (settledBy h first second trial r) ≡ outcomeOf h (first .0) (second .0) (trial .0)
+  unfolding outcomeUnder asymmetricOutcome movedMeaning
+  asymmetric-response Still true is s e = rw (is, s) (ap (inSecond (first .0)) e)
   asymmetric-response (Tension f) true is s e =
-      absurd (isotropic-branch E (curveOf (h .compression)) second trial true s (sym (ap (λ (m : Moved). m .branch) e)))
-  asymmetric-response (Compression f) true is s e = rw (is, s) (ap (inSecond first) e)
-  asymmetric-response Elastic false is s e = rw (is, s) (ap (λ (m : Moved). inFirst m second) e)
-  asymmetric-response (Tension f) false is s e = rw (is, s) (ap (λ (m : Moved). inFirst m second) e)
+      absurd (isotropic-branch E (curveOf (h .compression)) (second .0) (trial .0) true s (sym (ap (λ (m : Moved). m .branch) e)))
+  asymmetric-response (Compression f) true is s e = rw (is, s) (ap (inSecond (first .0)) e)
+  asymmetric-response Still false is s e = rw (is, s) (ap (λ (m : Moved). inFirst m (second .0)) e)
+  asymmetric-response (Tension f) false is s e = rw (is, s) (ap (λ (m : Moved). inFirst m (second .0)) e)
   asymmetric-response (Compression f) false is s e =
-      absurd (isotropic-branch E (curveOf (h .tension)) first trial false s (sym (ap (λ (m : Moved). m .branch) e)))
+      absurd (isotropic-branch E (curveOf (h .tension)) (first .0) (trial .0) false s (sym (ap (λ (m : Moved). m .branch) e)))

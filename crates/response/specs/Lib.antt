@@ -1,4 +1,4 @@
 pub mod Response
 pub mod Limits
-pub mod Parts
+pub mod SideFlows
 pub mod Solved

@@ -1,14 +1,15 @@
--- What a pair leaves under the law of a sheet: whether and which way the rod flowed, the new stress, the new variables and the tangent
--- (document 01, The conditions of one pair), and what each case of the law's answer stands for. The numbers are those of crate flow's
--- `Stored`, which are the stated roundings of the only solution (proofs/Laws). Definitions only; nothing is assumed.
+-- What a pair leaves under the law of a sheet (SPEC 7.6 to 7.8, 7.11), and what the law's answer stands for (SPEC 8.8), cited by rod,
+-- accuracy and the demands; definitions only, nothing is assumed. The numbers are those of flow's `Stored`, and proofs/Laws shows that they
+-- are the roundings of SPEC 7.2 to 7.5.
 use Prim.Native.Nat.{ℕ, _≤_}
 use mathlib.Core.Path.{_≡_}
-use mathlib.Core.Bool.{Bool, true, false}
+use mathlib.Core.Bool.{Bool, true, false, cond}
 use lib.IntN.{ℤ, pos, natAbs, _-ℤ_}
-use Rattle.refusals.specs.Table.{pick}
 use Rattle.ranges.specs.Ranges.{mostStress, mostAbscissa}
 use Rattle.law.specs.declared.Law.{Law}
 use Rattle.law.specs.declared.Law.the-variants.{IsotropicLine, IsotropicCurve, Kinematic, Asymmetric}
+use Rattle.law.specs.Laws.{hasSecond}
+use Rattle.units.specs.declared.Grain.{Grain}
 use Rattle.units.specs.Signs.{isNeg}
 use Rattle.curve.specs.Curve.{Curve, limitAt}
 use Rattle.curve.specs.Tangent.{tangentAt}
@@ -16,15 +17,18 @@ use Rattle.curve.specs.Sides.{curveOf}
 use Rattle.sheet.specs.declared.Sheet.{Sheet}
 use Rattle.sheet.specs.Sound.{SheetSound, tangentOf}
 use Rattle.flow.specs.Stored.{isotropicStored, kinematicStored}
+use Rattle.response.specs.declared.Branch.{Branch}
+use Rattle.response.specs.declared.Branch.the-variants as branches
+use Rattle.response.specs.declared.Motion.{Motion}
+use Rattle.response.specs.declared.Motion.the-variants.{Still, Tension, Compression}
 use Rattle.response.specs.declared.Response.{Response}
-use Rattle.response.specs.declared.Response.the-variants.{Elastic, Tension, Compression}
 
--- The branch of the law: 0 elastic, 1 tension flow, 2 compression flow. A rod that flows does so toward the trial: `s` is the trial stress,
--- for law 2 as it lies from the centre.
+-- SPEC 7.7: the branch, 0 where the rod didn't yield, 1 toward tension, 2 toward compression. A rod flows toward the trial: `s` is the
+-- trial stress, for law 2 as seen from the old centre.
 abbrev pub branchOf : Bool → (s : ℤ) → ℕ
-branchOf yielded s = pick yielded (pick (isNeg s) 2 1) 0
+branchOf yielded s = cond yielded (cond (isNeg s) 2 1) 0
 
--- What a pair leaves of the stress and of the variable that the law moves: an abscissa or the centre.
+-- SPEC 7.6 to 7.8, 7.11: what a pair leaves of the stress and of the variable that the law moves, an abscissa or the centre.
 pub record Moved : Type 0 where
   pub yielded : Bool
   pub branch : ℕ
@@ -32,8 +36,8 @@ pub record Moved : Type 0 where
   pub variable : ℤ
   pub tangent : ℕ
 
--- Isotropic, where Young's modulus is E. "The tangent is E if the pair didn't yield, otherwise .. that of the segment with start ≤ new
--- abscissa, as stored, < end." No abscissa is below 0.
+-- SPEC 7.8, 7.11, one curve of the isotropic law, E being Young's modulus: without a yield the tangent is E, else the one at the new
+-- abscissa. A negative abscissa doesn't occur; its magnitude stands for it.
 unfoldable pub isotropicMoved : (E : ℕ) → Curve → (abscissa trial : ℤ) → Moved
 isotropicMoved E curve abscissa trial =
     let side = isotropicStored (limitAt E curve) trial (natAbs abscissa) in
@@ -42,10 +46,10 @@ isotropicMoved E curve abscissa trial =
       branch = branchOf (side .yielded) trial;
       stress = side .stress;
       variable = pos (side .abscissa);
-      tangent = pick (side .yielded) (tangentAt E curve (side .abscissa)) E;
+      tangent = cond (side .yielded) (tangentAt E curve (side .abscissa)) E;
     }
 
--- Kinematic: "for law 2, that of its one segment".
+-- SPEC 7.8, 7.11, kinematic: the tangent of a flow is that of the only segment.
 unfoldable pub kinematicMoved : (E tangent yield : ℕ) → (centre trial : ℤ) → Moved
 kinematicMoved E tangent yield centre trial =
     let stored = kinematicStored E tangent yield trial centre in
@@ -54,10 +58,10 @@ kinematicMoved E tangent yield centre trial =
       branch = branchOf (stored .yielded) (trial -ℤ centre);
       stress = stored .stress;
       variable = stored .centre;
-      tangent = pick (stored .yielded) tangent E;
+      tangent = cond (stored .yielded) tangent E;
     }
 
--- What a pair leaves of the stress and of both variables of a state.
+-- SPEC 7.6 to 7.8, 7.11: what a pair leaves of the stress and of both variables of a state.
 pub record Outcome : Type 0 where
   pub yielded : Bool
   pub branch : ℕ
@@ -66,20 +70,22 @@ pub record Outcome : Type 0 where
   pub second : ℤ
   pub tangent : ℕ
 
--- The first variable is the one that moved, or the second.
+-- SPEC 1.3: what moved is the first variable,
 abbrev pub inFirst : Moved → (second : ℤ) → Outcome
 inFirst m second =
     record { yielded = m .yielded; branch = m .branch; stress = m .stress; first = m .variable; second = second; tangent = m .tangent }
 
+-- or the second; the other one stays.
 abbrev pub inSecond : (first : ℤ) → Moved → Outcome
 inSecond first m =
     record { yielded = m .yielded; branch = m .branch; stress = m .stress; first = first; second = m .variable; tangent = m .tangent }
 
--- "Asymmetric: tension and compression sides each .. as in the isotropic law." Limits are positive, so a trial passes that of its own sign.
+-- SPEC 7.11, asymmetric: the side of the trial's sign, by the isotropic law. Limits lie above 0, so that no trial passes the other one.
 unfoldable pub asymmetricOutcome : (E : ℕ) → (tension compression : Curve) → (first second trial : ℤ) → Outcome
 asymmetricOutcome E tension compression first second trial =
-    pick (isNeg trial) (inSecond first (isotropicMoved E compression second trial)) (inFirst (isotropicMoved E tension first trial) second)
+    cond (isNeg trial) (inSecond first (isotropicMoved E compression second trial)) (inFirst (isotropicMoved E tension first trial) second)
 
+-- SPEC 7.11: what a pair leaves, law by law, from the variables of the state and the trial stress,
 unfoldable pub outcomeUnder : Law → Sheet → (first second trial : ℤ) → Outcome
 outcomeUnder IsotropicLine h first second trial = inFirst (isotropicMoved (h .modulus .0) (curveOf (h .tension)) first trial) second
 outcomeUnder IsotropicCurve h first second trial = inFirst (isotropicMoved (h .modulus .0) (curveOf (h .tension)) first trial) second
@@ -88,50 +94,75 @@ outcomeUnder Kinematic h first second trial =
 outcomeUnder Asymmetric h first second trial =
     asymmetricOutcome (h .modulus .0) (curveOf (h .tension)) (curveOf (h .compression)) first second trial
 
--- What a pair leaves under the sheet's law, from the variables of the state and the trial stress.
+-- and that under the law of the sheet.
 abbrev pub outcomeOf : Sheet → (first second trial : ℤ) → Outcome
 outcomeOf h first second trial = outcomeUnder (h .law) h first second trial
 
--- What each case of the law's answer stands for: its branch, the stress, the variable that it moves, and the tangent. Where nothing flowed
--- the stress is the trial and the variable stays.
-unfoldable pub movedMeaning : (E : ℕ) → (variable trial : ℤ) → Response → Moved
-movedMeaning E variable trial Elastic = record { yielded = false; branch = 0; stress = trial; variable = variable; tangent = E }
+-- SPEC 7.7: the number of a branch,
+abbrev pub branchNumber : Branch → ℕ
+branchNumber branches.Elastic = 0
+branchNumber branches.Tension = 1
+branchNumber branches.Compression = 2
+
+-- and whether the rod yielded (SPEC 7.6).
+abbrev pub yieldedBy : Branch → Bool
+yieldedBy branches.Elastic = false
+yieldedBy branches.Tension = true
+yieldedBy branches.Compression = true
+
+-- SPEC 8.8: the numbers of the law's answer.
+abbrev pub responseMeaning : Response → Outcome
+responseMeaning r =
+    record {
+      yielded = yieldedBy (r .branch);
+      branch = branchNumber (r .branch);
+      stress = r .stress .0;
+      first = r .first .0;
+      second = r .second .0;
+      tangent = r .tangent .0;
+    }
+
+-- SPEC 8.8: what each case of a motion stands for, of one variable. Where nothing flowed the stress is the trial and the variable stays.
+unfoldable pub movedMeaning : (E : ℕ) → (variable trial : ℤ) → Motion → Moved
+movedMeaning E variable trial Still = record { yielded = false; branch = 0; stress = trial; variable = variable; tangent = E }
 movedMeaning E variable trial (Tension f) =
     record { yielded = true; branch = 1; stress = f .stress .0; variable = f .variable .0; tangent = f .tangent .0 }
 movedMeaning E variable trial (Compression f) =
     record { yielded = true; branch = 2; stress = f .stress .0; variable = f .variable .0; tangent = f .tangent .0 }
 
--- Compression moves the second variable under law 3; all else moves the first.
-abbrev pub movesSecond : Law → Response → Bool
-movesSecond IsotropicLine r = false
-movesSecond IsotropicCurve r = false
-movesSecond Kinematic r = false
-movesSecond Asymmetric Elastic = false
-movesSecond Asymmetric (Tension f) = false
-movesSecond Asymmetric (Compression f) = true
+-- SPEC 7.7: the law's answer, settled here alone: a flow toward compression moves the second variable if there is one, any other the first.
+abbrev pub settledBy : Sheet → (first second trial : Grain) → Motion → Response
+settledBy h first second trial Still =
+    record { branch = branches.Elastic; stress = trial; first = first; second = second; tangent = h .modulus }
+settledBy h first second trial (Tension f) =
+    record { branch = branches.Tension; stress = f .stress; first = f .variable; second = second; tangent = f .tangent }
+settledBy h first second trial (Compression f) =
+    let moved = hasSecond (h .law) in
+    record {
+      branch = branches.Compression;
+      stress = f .stress;
+      first = cond moved first (f .variable);
+      second = cond moved (f .variable) second;
+      tangent = f .tangent;
+    }
 
-unfoldable pub responseMeaning : Sheet → (first second trial : ℤ) → Response → Outcome
-responseMeaning h first second trial r =
-    let E = h .modulus .0 in
-    pick (movesSecond (h .law) r) (inSecond first (movedMeaning E second trial r)) (inFirst (movedMeaning E first trial r) second)
-
--- An abscissa in its range.
+-- SPEC 3.11: an abscissa in its range.
 pub record AbscissaRight (z : ℤ) : Type 0 where
   pub not-negative : isNeg z ≡ false
   pub most : natAbs z ≤ mostAbscissa
 
--- The variables that the law has, in their ranges.
+-- SPEC 3.11: the variables that the law has, in their ranges.
 abbrev pub VariablesRight : Law → (first second : ℤ) → Type 0
 VariablesRight IsotropicLine first second = AbscissaRight first
 VariablesRight IsotropicCurve first second = AbscissaRight first
 VariablesRight Kinematic first second = natAbs first ≤ mostStress
 VariablesRight Asymmetric first second = AbscissaRight first × AbscissaRight second
 
--- No trial stress from a state and a pair in their ranges is greater.
+-- SPEC 5.3: no trial stress from a state and a pair in their ranges is greater.
 abbrev pub mostTrial : ℕ
 mostTrial = 1000000000000000
 
--- What the answer in 64 bits asks: a sheet that passed, variables in their ranges, and a trial stress from such.
+-- SPEC 7.11: what the answer in 64 bits asks: a sheet that passes, variables in their ranges, and a trial stress within its bound.
 pub record Answerable (h : Sheet) (first second trial : ℤ) : Type 0 where
   pub sound : SheetSound h
   pub variables : VariablesRight (h .law) first second

@@ -1,6 +1,5 @@
--- What demand 2 asks of the numbers that a pair leaves: "the rounding, as stated, of the only solution of the law's yield and flow
--- conditions .. from the old state". The conditions and the roundings are those of crate flow, put to the curves of a sheet; proofs/Laws
--- shows that what a pair leaves answers them. Definitions only; nothing is assumed.
+-- What demand 2 asks of the numbers that a pair leaves (SPEC 6.6 to 6.8, 7.1, 7.8), cited by accuracy and the demands; definitions only,
+-- nothing is assumed. Conditions and roundings are flow's, put to the curves of a sheet; proofs/Laws shows them of every pair.
 use Prim.Native.Nat.{ℕ, _≤_, _<_}
 use mathlib.Core.Path.{_≡_}
 use mathlib.Core.Bool.{true, false}
@@ -23,55 +22,56 @@ use Rattle.flow.specs.Conditions as conditions
 use Rattle.flow.specs.Rounded.{IsotropicRounded, KinematicRounded, AsymmetricRounded}
 use Rattle.response.specs.Response.{Outcome}
 
--- The conditions of a law, from an old state and a trial stress.
+-- SPEC 6.1: the conditions of a law, from the numbers of an old state and a trial stress.
 pub record Conditions : Type 1 where
-  -- the new numbers that they speak of, over fractions
+  -- SPEC 6.1: the new numbers that they speak of, over fractions
   pub Candidate : Type 0
-  -- a candidate meets them
+  -- SPEC 6.3 to 6.5: a candidate meets them
   pub Meets : Candidate → Type 0
-  -- two candidates are equal as fractions
+  -- SPEC 6.7: two candidates are equal as fractions
   pub Same : Candidate → Candidate → Type 0
-  -- accumulated plastic strain grows
+  -- SPEC 6.8: accumulated plastic strain grows
   pub Grows : Candidate → Type 0
-  -- the numbers of an outcome are the stated roundings of a candidate
+  -- SPEC 7.2 to 7.5: the numbers of an outcome are the roundings of a candidate
   pub Rounds : Candidate → Outcome → Type 0
-  -- the trial passes a limit; "equality doesn't pass"
+  -- SPEC 6.6: the trial passes a limit; equality is not passing
   pub Passes : Type 0
-  -- it does so toward tension, or toward compression
+  -- SPEC 6.6: it does so toward tension, or toward compression
   pub PassesTension : Type 0
   pub PassesCompression : Type 0
-  -- the tangent of an outcome that flowed toward tension, or toward compression, is the law's
+  -- SPEC 7.8: the tangent of an outcome that flowed toward tension, or toward compression, is the law's
   pub TangentTension : Outcome → Type 0
   pub TangentCompression : Outcome → Type 0
 
--- The conditions have one solution, and an outcome is its rounding: yielded exactly when plastic strain grows, which is exactly when the
--- trial passes a limit, with the branch 1 toward tension and 2 toward compression, and the law's tangent there.
+-- SPEC 6.7, 7.1: the conditions have one solution, and an outcome is its rounding. SPEC 6.8, 7.6: it yielded exactly where plastic strain
+-- grows, and that is where the trial passes a limit. SPEC 7.7, 7.8: the branch says toward which side, and the tangent is the law's there.
 pub record Solved (E : ℕ) (c : Conditions) (o : Outcome) : Type 0 where
   pub exists : (x : c .Candidate) × c .Meets x
   pub unique : (x y : c .Candidate) → c .Meets x → c .Meets y → c .Same x y
   pub rounded : (x : c .Candidate) → c .Meets x → c .Rounds x o
-  -- no other numbers are its rounding
+  -- SPEC 7.1: no other numbers are its rounding
   pub only : (x : c .Candidate) → c .Meets x → (o′ : Outcome) → c .Rounds x o′
       → (o′ .stress ≡ o .stress) × (o′ .first ≡ o .first) × (o′ .second ≡ o .second)
   pub grows : (x : c .Candidate) → c .Meets x → (o .yielded ≡ true) ↔ c .Grows x
   pub passes : (o .yielded ≡ true) ↔ c .Passes
   pub tension : (o .branch ≡ 1) ↔ c .PassesTension
   pub compression : (o .branch ≡ 2) ↔ c .PassesCompression
-  -- "The tangent is E if the pair didn't yield, otherwise .."
+  -- SPEC 7.8: E without a yield, else by the side that flowed
   pub tangent-still : o .branch ≡ 0 → o .tangent ≡ E
   pub tangent-tension : o .branch ≡ 1 → c .TangentTension o
   pub tangent-compression : o .branch ≡ 2 → c .TangentCompression o
 
--- ".. that of the segment with start ≤ new abscissa, as stored, < end."
+-- SPEC 4.6, 7.8: a tangent is that of the segment that holds the abscissa.
 abbrev pub SegmentTangent : (E : ℕ) → Curve → (abscissa : ℤ) → (tangent : ℕ) → Type 0
 SegmentTangent E curve abscissa tangent =
     (p : Piece) × List·Memᴰ p (pieces E (curve .yield) (curve .segments)) × T (holds p (natAbs abscissa)) × (tangent ≡ p .tangent)
 
--- Laws 0 and 1, from the abscissa A.
+-- SPEC 6.3: a candidate of laws 0 and 1,
 pub record IsotropicCandidate : Type 0 where
   pub stress : Frac
   pub abscissa : Frac
 
+-- and their conditions, from the abscissa A.
 abbrev pub isotropicConditions : (E : ℕ) → 0 < E → Curve → (trial : ℤ) → (A : ℕ) → (second : ℤ) → Conditions
 isotropicConditions E some curve trial A second =
     let side = sideOf E some curve in
@@ -89,12 +89,13 @@ isotropicConditions E some curve trial A second =
       TangentCompression = λ o. SegmentTangent E curve (o .first) (o .tangent);
     }
 
--- Law 2, from the centre X; growth is E times the growth of p.
+-- SPEC 6.4: a candidate of law 2; growth is E times the growth of p,
 pub record KinematicCandidate : Type 0 where
   pub stress : Frac
   pub centre : Frac
   pub growth : Frac
 
+-- and its conditions, from the centre X.
 abbrev pub kinematicConditions : (E tangent : ℕ) → tangent < E → (yield : ℕ) → (trial X second : ℤ) → Conditions
 kinematicConditions E tangent below yield trial X second =
     record {
@@ -110,12 +111,13 @@ kinematicConditions E tangent below yield trial X second =
       TangentCompression = λ o. o .tangent ≡ tangent;
     }
 
--- Law 3, from the abscissas A of tension and B of compression.
+-- SPEC 6.5: a candidate of law 3,
 pub record AsymmetricCandidate : Type 0 where
   pub stress : Frac
   pub tension : Frac
   pub compression : Frac
 
+-- and its conditions, from the abscissas A of tension and B of compression.
 abbrev pub asymmetricConditions : (E : ℕ) → 0 < E → (curveT curveC : Curve) → (trial : ℤ) → (A B : ℕ) → Conditions
 asymmetricConditions E some curveT curveC trial A B =
     let tension = sideOf E some curveT in
@@ -136,7 +138,7 @@ asymmetricConditions E some curveT curveC trial A B =
       TangentCompression = λ o. SegmentTangent E curveC (o .second) (o .tangent);
     }
 
--- The conditions of the sheet's law, from the variables of a state. A sheet that passes has E above 0 and every tangent below E.
+-- SPEC 6.3 to 6.5: the conditions of the sheet's law, from the variables of a state. In a sheet that passes, 0 < E and t < E.
 abbrev pub conditionsUnder : Law → (h : Sheet) → SheetSound h → (first second trial : ℤ) → Conditions
 conditionsUnder IsotropicLine h sound first second trial =
     isotropicConditions (h .modulus .0) (sound .modulus-least) (curveOf (h .tension)) trial (natAbs first) second
@@ -149,12 +151,12 @@ conditionsUnder Asymmetric h sound first second trial =
     asymmetricConditions (h .modulus .0) (sound .modulus-least) (curveOf (h .tension)) (curveOf (h .compression)) trial
     (natAbs first) (natAbs second)
 
--- An abscissa that is not below its yield (what 6 asks).
+-- SPEC 8.4: an abscissa that is not below its yield,
 pub record PastYield (yield : ℕ) (z : ℤ) : Type 0 where
   pub not-negative : isNeg z ≡ false
   pub past : yield ≤ natAbs z
 
--- Every abscissa of the law is.
+-- and every abscissa of the law like that.
 abbrev pub AbscissasPast : Law → Sheet → (first second : ℤ) → Type 0
 AbscissasPast IsotropicLine h first second = PastYield (h .tension .«yield_stress» .0) first
 AbscissasPast IsotropicCurve h first second = PastYield (h .tension .«yield_stress» .0) first

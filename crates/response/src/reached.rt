@@ -1,4 +1,4 @@
-// The yield limits that a rod has reached: found at its abscissas, and kept up from pair to pair.
+// The yield limits that a rod has reached (SPEC 7.12): found at its abscissas, and kept up from pair to pair.
 use crate::Limits;
 use curve::Side;
 use law::Law;

@@ -1,11 +1,8 @@
-pub mod ReadLaws
-pub mod LimitLaws
+pub mod WithinLimitLaws
 pub mod RangeFacts
-pub mod StateLaws
-pub mod RoundTrip
-pub mod UnusedLaws
 pub mod VariableLaws
+pub mod UnusedLaws
 pub mod StepLaws
 pub mod PairSolved
+pub mod PlasticStrain
 pub mod BelongsKept
-pub mod Kept

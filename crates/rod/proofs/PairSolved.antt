@@ -1,5 +1,5 @@
--- Demand 2: for every sheet, state and pair that passed, reachable or not, what the pair leaves is the rounding, as stated, of the only
--- solution of the law's conditions, yielded exactly when plastic strain grew, with the law's tangent.
+-- SPEC 6.7, 7.1, demand 2 for one pair: for every sheet, state and pair that pass, whether a history leads there or not, what the pair
+-- leaves is the rounding of the one solution that the conditions have, yielded exactly where plastic strain grew, with the law's tangent.
 use Prim.Native.Nat.{ℕ}
 use mathlib.Core.Path.{_≡_, refl}
 use mathlib.Core.Bool.{true, false≢true}
@@ -18,7 +18,7 @@ use Rattle.response.proofs.Laws.{law-solved}
 use Rattle.rod.specs.declared.Rod.{Rod}
 use Rattle.rod.specs.Against.{pastYield, isotropicBelongs, asymmetricBelongs, belongsBy, belongs}
 use Rattle.rod.specs.Steps.{trialOf, outcomeAfter}
-use Rattle.rod.specs.Steady.{Accepted}
+use Rattle.rod.specs.Accepted.{Accepted}
 
 pub past-yield-is : (side : Side) (z : ℤ) → pastYield side z ≡ true → PastYield (side .«yield_stress» .0) z
 past-yield-is side (pos n) e = record { not-negative = refl; past = leb-true (side .«yield_stress» .0) n e }

@@ -1,10 +1,9 @@
 -- What a rod in its ranges says of each of its numbers.
 use Prim.Native.Nat.{_≤_}
 use mathlib.Core.Path.{_≡_}
-use mathlib.Core.Bool.{Bool, true, false}
+use mathlib.Core.Bool.{Bool, true, false, cond}
 use native.Mathlib.Omega.{arith}
 use lib.IntN.{ℤ, natAbs}
-use Rattle.refusals.specs.Table.{pick}
 use Rattle.refusals.proofs.FirstLaws.{both-hold}
 use Rattle.ranges.specs.Ranges.{around, temperatureRight, mostStrain, mostStress, mostAbscissa}
 use Rattle.ranges.proofs.RangeMagnitudes.{around-magnitude}
@@ -12,7 +11,7 @@ use Rattle.law.specs.declared.Law.{Law}
 use Rattle.law.specs.declared.Law.the-variants.{Kinematic}
 use Rattle.rod.specs.declared.Rod.{Rod}
 use Rattle.rod.specs.Variables.{abscissaRight, firstRight, secondRight}
-use Rattle.rod.specs.States.{countsRight, inRange}
+use Rattle.rod.specs.InRange.{countsRight, inRange}
 use Rattle.rod.proofs.VariableLaws.{abscissa-facts}
 
 pub record Ranged (r : Rod) : Type 0 where
@@ -45,6 +44,6 @@ pub centre-magnitude : (law : Law) (z : ℤ) → firstRight law z ≡ true → l
 centre-magnitude law z e k = around-magnitude mostStress z (rw k at e)
 
 -- A first variable of either kind.
-pub first-magnitude : (t : Bool) (z : ℤ) → pick t (abscissaRight z) (around mostStress z) ≡ true → natAbs z ≤ mostAbscissa
+pub first-magnitude : (t : Bool) (z : ℤ) → cond t (abscissaRight z) (around mostStress z) ≡ true → natAbs z ≤ mostAbscissa
 first-magnitude true z e = abscissa-facts z e .1
 first-magnitude false z e = omega (arith, around-magnitude mostStress z e)

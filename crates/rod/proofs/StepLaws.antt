@@ -1,7 +1,7 @@
--- What the law's answer stands for, case by case, as the numbers that a step stores.
+-- What a step asks of the law's answer, and what stays in its range.
 use Prim.Native.Nat.{_+_, _≤_}
-use mathlib.Core.Path.{_≡_, refl, sym, ap, _∙_}
-use mathlib.Core.Bool.{Bool, true, false}
+use mathlib.Core.Path.{_≡_, sym, ap, _∙_}
+use mathlib.Core.Bool.{true, false}
 use borrow.Author.Tests.{eqb-true, leb-true, not-false}
 use lib.IntN.{ℤ, natAbs}
 use lib.Dec.{eqb, leb}
@@ -12,54 +12,13 @@ use Rattle.law.specs.Laws.{lawOf, numberOf}
 use Rattle.law.proofs.LawLaws.{law-of-number}
 use Rattle.law.specs.declared.Law.{Law}
 use Rattle.law.specs.declared.Law.the-variants.{IsotropicLine, IsotropicCurve, Kinematic, Asymmetric}
-use Rattle.units.specs.Kinds.{grain}
-use Rattle.refusals.specs.Table.{pick}
 use Rattle.sheet.specs.declared.Sheet.{Sheet}
-use Rattle.response.specs.declared.Flowed.{Flowed}
-use Rattle.response.specs.declared.Response.the-variants.{Elastic, Tension, Compression}
-use Rattle.response.specs.Response.{responseMeaning, movedMeaning, movesSecond}
 use Rattle.response.specs.Response.{AbscissaRight, VariablesRight}
 use Rattle.rod.specs.declared.Rod.{Rod}
-use Rattle.rod.specs.Variables.{abscissaRight, firstRight, secondRight, hasSecond}
+use Rattle.rod.specs.Variables.{abscissaRight, firstRight, secondRight}
 use Rattle.rod.specs.Against.{belongs}
-use Rattle.rod.specs.Steps.{settledOf, leavesRange}
+use Rattle.rod.specs.Steps.{leavesRange}
 use Rattle.rod.proofs.VariableLaws.{abscissa-facts}
-
--- Only compression, and only under law 3, moves the second variable.
-elastic-in-first : (law : Law) → movesSecond law Elastic ≡ false
-elastic-in-first IsotropicLine = refl
-elastic-in-first IsotropicCurve = refl
-elastic-in-first Kinematic = refl
-elastic-in-first Asymmetric = refl
-
-tension-in-first : (law : Law) (f : Flowed) → movesSecond law (Tension f) ≡ false
-tension-in-first IsotropicLine f = refl
-tension-in-first IsotropicCurve f = refl
-tension-in-first Kinematic f = refl
-tension-in-first Asymmetric f = refl
-
-compression-by-law : (law : Law) (f : Flowed) → movesSecond law (Compression f) ≡ hasSecond law
-compression-by-law IsotropicLine f = refl
-compression-by-law IsotropicCurve f = refl
-compression-by-law Kinematic f = refl
-compression-by-law Asymmetric f = refl
-
-module _ (h : Sheet) (first second trial : ℤ) where
-  pub settled-elastic : settledOf (responseMeaning h first second trial Elastic)
-      ≡ record { yielded = false; stress = grain trial; first = grain first; second = grain second; tangent = h .modulus }
-  unfolding responseMeaning movedMeaning
-  settled-elastic = rw (elastic-in-first (h .law))
-
-  pub settled-tension : (f : Flowed) → settledOf (responseMeaning h first second trial (Tension f))
-      ≡ record { yielded = true; stress = f .stress; first = f .variable; second = grain second; tangent = f .tangent }
-  unfolding responseMeaning movedMeaning
-  settled-tension f = rw (tension-in-first (h .law) f)
-
-  pub settled-compression : (f : Flowed) (t : Bool) → hasSecond (h .law) ≡ t → settledOf (responseMeaning h first second trial (Compression f))
-      ≡ record { yielded = true; stress = f .stress; first = pick t (grain first) (f .variable); second = pick t (f .variable) (grain second); tangent = f .tangent }
-  unfolding responseMeaning movedMeaning
-  settled-compression f true e = rw (compression-by-law (h .law) f, e)
-  settled-compression f false e = rw (compression-by-law (h .law) f, e)
 
 -- The variables in their ranges, as the law's answer asks for them.
 abscissa-is : (z : ℤ) → abscissaRight z ≡ true → AbscissaRight z

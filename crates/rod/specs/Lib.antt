@@ -1,9 +1,8 @@
 pub mod Variables
-pub mod States
-pub mod Limits
+pub mod InRange
+pub mod WithinLimit
 pub mod Against
 pub mod Forecast
 pub mod Unused
 pub mod Steps
-pub mod Steady
-pub mod Kept
+pub mod Accepted

@@ -1,18 +1,17 @@
--- "An unused rod: the sheet's law and reference temperature, abscissas equal to the yields in grains, all else 0" (document 01, Bit
--- layouts). Definitions only; nothing is assumed.
+-- The unused rod of a sheet (SPEC 3.15), cited by tie_rod, accuracy, board and the demands; definitions only, nothing is assumed.
 use Prim.Native.Nat.{ℕ}
-use mathlib.Core.Bool.{Bool, false}
+use mathlib.Core.Bool.{Bool, false, cond}
 use lib.IntN.{ℤ, pos}
-use Rattle.refusals.specs.Table.{pick}
 use Rattle.units.specs.Kinds.{nano, grain}
 use Rattle.sheet.specs.declared.Sheet.{Sheet}
 use Rattle.rod.specs.declared.Rod.{Rod}
-use Rattle.rod.specs.Variables.{firstIsAbscissa, hasSecond}
+use Rattle.law.specs.Laws.{firstIsAbscissa, hasSecond}
 
--- A variable of an unused rod: the yield where it is an abscissa, else 0.
+-- SPEC 3.15: a variable of an unused rod: the yield of its side where it is an abscissa, else 0.
 abbrev pub startOf : Bool → ℕ → ℤ
-startOf isAbscissa yield = pick isAbscissa (pos yield) (pos 0)
+startOf isAbscissa yield = cond isAbscissa (pos yield) (pos 0)
 
+-- SPEC 3.15: the unused rod, which is the papers' term.
 unfoldable pub unusedOf : Sheet → Rod
 unusedOf h =
     record {

@@ -1,4 +1,4 @@
-// A state against a sheet: whether the rod can be one of that sheet.
+// A state against a sheet (SPEC 8.4): whether the rod can be one of that sheet.
 use crate::Rod;
 use law::Law;
 use response::Limits;
@@ -6,20 +6,19 @@ use sheet::Sheet;
 use units::Grain;
 use units::Magnitude;
 ghost use mathlib.Core.Path.{_≡_};
-ghost use mathlib.Core.Bool.{true};
+ghost use mathlib.Core.Bool.{true, cond};
 ghost use Prim.Native.Nat.{_<_};
 ghost use lib.Dec.{leb};
 ghost use lib.IntN.{pos};
 ghost use lib.Signed.{leZ};
-ghost use Rattle.refusals.specs.Table.{pick};
 ghost use Rattle.sheet.specs.Sound.{SheetSound};
 ghost use Rattle.response.specs.Limits.{limitOn, limitsOf, limitsUnder};
-ghost use Rattle.rod.specs.States.{inRange};
+ghost use Rattle.rod.specs.InRange.{inRange};
 ghost use Rattle.rod.specs.Against.{asymmetricBelongs, belongs, isotropicBelongs, kinematicBelongs, noSecond};
 
 // Whether a stress doesn't pass a yield limit. A stress away from the limit's side, of the other sign, never does.
 pub fn within_limit(limit: Magnitude, away: bool, size: Magnitude) -> bool
-    ensures { λ r. ⌜ r ≡ pick away true (leb (size .0) (limit .0)) ⌝ }
+    ensures { λ r. ⌜ r ≡ cond away true (leb (size .0) (limit .0)) ⌝ }
 {
     if away {
         return true;

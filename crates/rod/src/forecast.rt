@@ -1,4 +1,4 @@
-// The tangent modulus that a state forecasts.
+// The tangent modulus that a state forecasts (SPEC 7.13).
 use crate::Rod;
 use law::Law;
 use sheet::Sheet;

@@ -5,9 +5,7 @@ use units::Nano;
 use units::Tenths;
 
 pub mod against; // against.rt: a rod against a sheet
-mod fields; // fields.rt: the readers of single fields
 pub mod forecast; // forecast.rt: the tangent modulus to expect
-pub mod state; // state.rt: a rod in bytes
 pub mod step; // step.rt: one pair
 mod unused; // unused.rt: the rod of a sheet before its first pair
 pub mod variables; // variables.rt: what the two variables are under each law

@@ -1,16 +1,14 @@
-// One pair: a rod is carried from state to state.
+// One pair (SPEC 7.9, 7.10): a rod is carried from state to state.
 use crate::Rod;
 use crate::against;
 use crate::variables;
 use law::Law;
 use pair::Pair;
-use response::Flowed;
 use response::Limits;
 use response::Response;
 use row::Row;
 use sheet::Sheet;
 use units::Grain;
-use units::Modulus;
 use units::Nano;
 ghost use mathlib.Core.Path.{_≡_};
 ghost use mathlib.Core.Bool.{true};
@@ -21,8 +19,8 @@ ghost use Rattle.ranges.specs.Ranges.{mostCount, mostStress};
 ghost use Rattle.units.specs.Kinds.{grain};
 ghost use Rattle.response.specs.Response.{mostTrial, responseMeaning};
 ghost use Rattle.response.specs.Limits.{limitsOf};
-ghost use Rattle.rod.specs.Steps.{advanceBy, advanceOf, bothPassedBy, leavesRange, settledOf, stepMeaning, stepRefusals, trialOf};
-ghost use Rattle.rod.specs.Steady.{Accepted, PairAccepted};
+ghost use Rattle.rod.specs.Steps.{advanceBy, advanceOf, bothPassedBy, leavesRange, stepMeaning, stepRefusals, trialOf};
+ghost use Rattle.rod.specs.Accepted.{Accepted, PairAccepted};
 
 // The next state, with the row of the pair.
 pub struct Advance {
@@ -32,76 +30,20 @@ pub struct Advance {
 
 // What a step answers.
 pub enum Stepped {
-    Moved(Advance),
+    Advanced(Advance),
     StrainLeaves,
     BothFlow,
     OutOfRange,
 }
 
-// What a pair leaves of a rod by its law.
-struct Settled {
-    yielded: bool,
-    stress: Grain,
-    first: Grain,
-    second: Grain,
-    tangent: Modulus,
-}
-
-// The law's answer as numbers: what didn't move is as it was.
-fn settle(rod: Rod, sheet: Sheet, trial: Grain, response: Response) -> Settled
-    ensures { λ r. ⌜ r ≡ settledOf (responseMeaning sheet (rod .first .0) (rod .second .0) (trial .0) response) ⌝ }
-{
-    let first = rod.first;
-    let second = rod.second;
-    match response {
-        Response::Elastic => {
-            let modulus = sheet.modulus;
-            Settled {
-                yielded: false,
-                stress: trial,
-                first: first,
-                second: second,
-                tangent: modulus,
-            }
-        }
-        Response::Tension(flowed) => {
-            let moved = flowed.variable;
-            yielded(flowed, moved, second)
-        }
-        Response::Compression(flowed) => {
-            let moved = flowed.variable;
-            let law = sheet.law;
-            if variables::has_second(law) {
-                return yielded(flowed, first, moved);
-            }
-            yielded(flowed, moved, second)
-        }
-    }
-}
-
-// What a flow left, with the variables after it.
-fn yielded(flowed: Flowed, first: Grain, second: Grain) -> Settled
-    ensures { λ r. ⌜ r ≡ record { yielded = true; stress = flowed .stress; first = first; second = second; tangent = flowed .tangent } ⌝ }
-{
-    let stress = flowed.stress;
-    let tangent = flowed.tangent;
-    Settled {
-        yielded: true,
-        stress: stress,
-        first: first,
-        second: second,
-        tangent: tangent,
-    }
-}
-
-// Whether the trial passes both limits of law 3.
+// Whether under law 3 the trial is past both limits (11).
 fn both_passed(rod: Rod, sheet: Sheet, limits: Limits, trial: Grain) -> bool
     requires { ⌜ 0 < sheet .modulus .0 ⌝ }
     requires limits { ⌜ limits ≡ limitsOf sheet (rod .first .0) (rod .second .0) ⌝ }
     ensures { λ r. ⌜ r ≡ bothPassedBy (sheet .law) sheet rod (trial .0) ⌝ }
 {
     let law = sheet.law;
-    if !variables::has_second(law) {
+    if !law.has_second() {
         return false;
     }
     let negative = trial.negative();
@@ -114,15 +56,15 @@ fn both_passed(rod: Rod, sheet: Sheet, limits: Limits, trial: Grain) -> bool
     !against::within_limit(compression, !negative, size)
 }
 
-// Whether a stress, a variable or the count of pairs would leave its range.
-fn leaves_range(rod: Rod, settled: Settled) -> bool
+// Whether a stress, a variable or the count of pairs would leave its range (SPEC 8.5).
+fn leaves_range(rod: Rod, response: Response) -> bool
     requires { ⌜ rod .pairs < 2 ^ 32 ⌝ }
-    ensures { λ r. ⌜ r ≡ leavesRange rod (settled .stress .0) (settled .first .0) (settled .second .0) ⌝ }
+    ensures { λ r. ⌜ r ≡ leavesRange rod (response .stress .0) (response .first .0) (response .second .0) ⌝ }
 {
     let law = rod.law;
-    let stress = settled.stress;
-    let first = settled.first;
-    let second = settled.second;
+    let stress = response.stress;
+    let first = response.first;
+    let second = response.second;
     if !stress
         .magnitude()
         .at_most(Grain(ranges::MOST_STRESS).magnitude()) {
@@ -139,7 +81,7 @@ fn leaves_range(rod: Rod, settled: Settled) -> bool
 }
 
 impl Rod {
-    // The trial stress of a pair.
+    // The trial stress of a pair (SPEC 5.3).
     fn trial(self, sheet: Sheet, pair: Pair) -> Grain
         requires { ⌜ Accepted sheet self × PairAccepted pair ⌝ }
         ensures { λ r. ⌜ r ≡ grain (trialOf sheet self pair) ⌝ }
@@ -155,16 +97,17 @@ impl Rod {
     }
 
     // The next state and the row, from the new strain and what the law left.
-    fn advance(self, sheet: Sheet, pair: Pair, settled: Settled) -> Advance
+    fn advance(self, sheet: Sheet, pair: Pair, response: Response) -> Advance
         requires { ⌜ Accepted sheet self × PairAccepted pair ⌝ }
-        requires room { ⌜ (natAbs (settled .stress .0) ≤ mostStress) × (self .pairs + 1 ≤ mostCount) ⌝ }
-        ensures { λ r. ⌜ r ≡ advanceBy sheet self pair settled ⌝ }
+        requires room { ⌜ (natAbs (response .stress .0) ≤ mostStress) × (self .pairs + 1 ≤ mostCount) ⌝ }
+        ensures { λ r. ⌜ r ≡ advanceBy sheet self pair (responseMeaning response) ⌝ }
     {
-        let yielded = settled.yielded;
-        let stress = settled.stress;
-        let first = settled.first;
-        let second = settled.second;
-        let tangent = settled.tangent;
+        let branch = response.branch;
+        let yielded = branch.yielded();
+        let stress = response.stress;
+        let first = response.first;
+        let second = response.second;
+        let tangent = response.tangent;
         let law = self.law;
         let modulus = sheet.modulus;
         let strain = self.strain.plus(pair.change);
@@ -214,11 +157,11 @@ impl Rod {
         }
         let first = self.first;
         let second = self.second;
-        let response = response::respond(sheet, limits, first, second, trial);
-        let settled = settle(self, sheet, trial, response);
-        if leaves_range(self, settled) {
+        let compression = trial.negative();
+        let response = response::respond(sheet, limits, first, second, trial, compression);
+        if leaves_range(self, response) {
             return Stepped::OutOfRange;
         }
-        Stepped::Moved(self.advance(sheet, pair, settled))
+        Stepped::Advanced(self.advance(sheet, pair, response))
     }
 }

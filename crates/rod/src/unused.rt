@@ -1,6 +1,5 @@
-// The rod of a sheet before its first pair.
+// The rod of a sheet before its first pair (SPEC 3.15).
 use crate::Rod;
-use crate::variables;
 use sheet::Sheet;
 use units::Grain;
 use units::Magnitude;
@@ -32,8 +31,8 @@ impl Rod {
         let reference = sheet.reference;
         let tension = sheet.tension.yield_stress;
         let compression = sheet.compression.yield_stress;
-        let first = start(variables::first_is_abscissa(law), tension);
-        let second = start(variables::has_second(law), compression);
+        let first = start(law.first_is_abscissa(), tension);
+        let second = start(law.has_second(), compression);
         Rod {
             law: law,
             yielded: false,

@@ -1,32 +1,8 @@
-// What the two variables of a rod are under each law.
+// The ranges of a rod's two variables under each law (SPEC 3.11).
 use law::Law;
 use units::Grain;
 ghost use mathlib.Core.Path.{_≡_};
-ghost use Rattle.rod.specs.Variables.{abscissaRight, firstIsAbscissa, firstRight, hasSecond, secondRight};
-
-// Whether the first variable is an abscissa; else it is the centre.
-pub fn first_is_abscissa(law: Law) -> bool
-    ensures { λ r. ⌜ r ≡ firstIsAbscissa law ⌝ }
-{
-    match law {
-        Law::IsotropicLine => true,
-        Law::IsotropicCurve => true,
-        Law::Kinematic => false,
-        Law::Asymmetric => true,
-    }
-}
-
-// Whether the law has a second variable, the compression abscissa.
-pub fn has_second(law: Law) -> bool
-    ensures { λ r. ⌜ r ≡ hasSecond law ⌝ }
-{
-    match law {
-        Law::IsotropicLine => false,
-        Law::IsotropicCurve => false,
-        Law::Kinematic => false,
-        Law::Asymmetric => true,
-    }
-}
+ghost use Rattle.rod.specs.Variables.{abscissaRight, firstRight, secondRight};
 
 // Whether an abscissa lies in its range.
 fn abscissa_right(abscissa: Grain) -> bool
@@ -44,7 +20,7 @@ fn abscissa_right(abscissa: Grain) -> bool
 pub fn first_right(law: Law, first: Grain) -> bool
     ensures { λ r. ⌜ r ≡ firstRight law (first .0) ⌝ }
 {
-    if first_is_abscissa(law) {
+    if law.first_is_abscissa() {
         return abscissa_right(first);
     }
     first
@@ -56,7 +32,7 @@ pub fn first_right(law: Law, first: Grain) -> bool
 pub fn second_right(law: Law, second: Grain) -> bool
     ensures { λ r. ⌜ r ≡ secondRight law (second .0) ⌝ }
 {
-    if has_second(law) {
+    if law.has_second() {
         return abscissa_right(second);
     }
     true

@@ -1,4 +1,4 @@
-// A result row: what a pair gave, in sixteen bytes.
+// A row, what a pair gave in sixteen bytes (SPEC 3.14).
 use units::Grain;
 use units::Modulus;
 ghost use mathlib.Core.Path.{_≡_};
@@ -7,10 +7,38 @@ ghost use lib.ListN.{length, take};
 ghost use Rattle.bits.specs.Layout.{filled, packed, put};
 ghost use Rattle.row.specs.Rows.{RowFits, rowBytes, rowLayout, rowLength, rowOf, rowValues};
 
-// Bytes of a row.
+// The bytes of a row.
 pub const ROW_LENGTH: usize = 16;
 
-// `plastic` is E times plastic strain.
+// Its fields, in bits: each begins where the one before it ends.
+const YIELDED_AT: usize = 0;
+
+const YIELDED_WIDTH: usize = 1;
+
+const ZERO_AT: usize = YIELDED_AT + YIELDED_WIDTH;
+
+const ZERO_WIDTH: usize = 3;
+
+const TANGENT_AT: usize = ZERO_AT + ZERO_WIDTH;
+
+const TANGENT_WIDTH: usize = 20;
+
+const STRESS_AT: usize = TANGENT_AT + TANGENT_WIDTH;
+
+const STRESS_WIDTH: usize = 48;
+
+const PLASTIC_AT: usize = STRESS_AT + STRESS_WIDTH;
+
+const PLASTIC_WIDTH: usize = 56;
+
+// In bytes, as they are written: the three fields in front, the stress, and where the last eight bytes begin.
+const FRONT_LENGTH: usize = STRESS_AT / 8;
+
+const STRESS_LENGTH: usize = STRESS_WIDTH / 8;
+
+const LAST_WORD_AT: usize = ROW_LENGTH - 8;
+
+// `plastic` is E times plastic strain (SPEC 5.4).
 pub struct Row {
     pub yielded: bool,
     pub tangent: Modulus,
@@ -23,10 +51,10 @@ impl Row {
     pub fn read(s: &[u8]) -> Row
         ensures { λ r. ⌜ r ≡ rowOf (now (s .entry)) ⌝ }
     {
-        let mark = bits::read(s, 0, 1);
-        let tangent = bits::read(s, 4, 20);
-        let stress = bits::read_whole(s, 24, 48);
-        let plastic = bits::read_whole(s, 72, 56);
+        let mark = bits::read(s, YIELDED_AT, YIELDED_WIDTH);
+        let tangent = bits::read(s, TANGENT_AT, TANGENT_WIDTH);
+        let stress = bits::read_whole(s, STRESS_AT, STRESS_WIDTH);
+        let plastic = bits::read_whole(s, PLASTIC_AT, PLASTIC_WIDTH);
         Row {
             yielded: mark == 1,
             tangent: Modulus(tangent),
@@ -40,8 +68,8 @@ impl Row {
         requires { ⌜ RowFits self ⌝ }
         ensures { λ r. ⌜ r ≡ packed (take 3 (filled rowLayout (rowValues self))) ⌝ }
     {
-        let marks = bits::flag(self.yielded) * 8;
-        marks * 1048576 + self.tangent.0
+        let marks = bits::flag(self.yielded) << ZERO_WIDTH;
+        (marks << TANGENT_WIDTH) + self.tangent.0
     }
 
     // Writes the row at a place of a lent buffer.
@@ -50,9 +78,9 @@ impl Row {
         ensures { λ _. ⌜ now (buffer .exit) ≡ put (now (buffer .entry)) at (rowBytes self) ⌝ }
     {
         // Eight bytes where seven would do: the compiler then joins some of their stores. The stress is written over the first.
-        bits::write_signed(buffer, at + 8, 8, self.plastic.0);
-        bits::write_signed(buffer, at + 3, 6, self.stress.0);
+        bits::write_signed(buffer, at + LAST_WORD_AT, 8, self.plastic.0);
+        bits::write_signed(buffer, at + FRONT_LENGTH, STRESS_LENGTH, self.stress.0);
         let front = self.front();
-        bits::write(buffer, at, 3, front);
+        bits::write(buffer, at, FRONT_LENGTH, front);
     }
 }

@@ -1,4 +1,4 @@
 pub mod SheetLaws
-pub mod PartLaws
+pub mod AnswerCases
 pub mod Passed
 pub mod SideReadable

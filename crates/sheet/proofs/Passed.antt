@@ -1,7 +1,7 @@
 -- A sheet that passes is sound.
 use Prim.Native.Nat.{ℕ, zero, suc, _+_, _-_, _≤_, _<_}
 use mathlib.Core.Path.{_≡_, sym, ap, subst, _∙_}
-use mathlib.Core.Bool.{Bool, true, false, _||_}
+use mathlib.Core.Bool.{Bool, true, false, _||_, cond}
 use mathlib.Core.List.{List, [], _∷_, _++_}
 use borrow.Author.Tests.{leb-true, ltb-true, eqb-true, not-false, ne-eqb}
 use native.Mathlib.Decide.{decLt}
@@ -9,19 +9,18 @@ use native.Mathlib.Omega.{arith}
 use lib.Dec.{eqb, leb, ltb}
 use lib.ListN.{length, getD, replicate, length-append, length-replicate, List·getD-append}
 use lib.Seq.{getD-at}
-use Rattle.refusals.specs.Table.{passes, firstOf, pick}
+use Rattle.refusals.specs.Table.{passes, firstOf}
 use Rattle.refusals.proofs.FirstLaws.{passes-line, passes-none, both-hold, three-hold}
 use Rattle.ranges.specs.Ranges.{temperatureRight, mostModulus, mostExpansion, mostLength, mostYield}
 use Rattle.law.specs.declared.Law.{Law}
 use Rattle.law.specs.declared.Law.the-variants.{Kinematic, Asymmetric}
 use Rattle.curve.specs.declared.Segment.{Segment}
-use Rattle.curve.specs.Sides.{flat}
+use Rattle.curve.specs.Sides.{flat, lengthAt, tangentOf}
 use Rattle.bits.specs.Field.{within}
-use Rattle.bits.proofs.FieldLaws.{field-below}
 use Rattle.sheet.specs.declared.Sheet.{Sheet}
-use Rattle.sheet.specs.Sheets.{lawIn, tensionCount, compressionCount, modulusIn, expansionIn, referenceIn, tensionYield, compressionYield, zeroBits, lengthIn, tangentIn, allBelow, mostTension, compressionOf, compressionYieldRight, lengthRight, tangentRight, countsRight, constantsRight, yieldsRight, numbersRight, lengthsRight, tangentsRight, fieldRefusals, sheetRefusals, segmentIn, segmentsIn, sevenPlaces, sideIn, sheetOf}
-use Rattle.sheet.specs.Sound.{SideSound, SheetSound, tangentOf, lengthOf}
-use Rattle.sheet.proofs.SheetLaws.{length-segmentsIn}
+use Rattle.sheet.specs.Sheets.{lawIn, tensionCount, compressionCount, modulusIn, expansionIn, referenceIn, tensionYield, compressionYield, headerZeroBits, segmentLengthIn, segmentTangentIn, allBelow, mostTension, compressionOf, compressionYieldRight, lengthRight, tangentRight, sheetCountsRight, constantsRight, yieldsRight, headerRight, lengthsRight, tangentsRight, sheetFieldRefusals, sheetRefusals, segmentIn, segmentsIn, sevenPlaces, sideIn, sheetOf}
+use Rattle.sheet.specs.Sound.{SideSound, SheetSound}
+use Rattle.sheet.proofs.SheetLaws.{few-segments, length-segmentsIn}
 
 -- The two bounds that a test within them shows.
 within-bounds : (least most x : ℕ) → within least most x ≡ true → (least ≤ x) × (x ≤ most)
@@ -57,10 +56,10 @@ unfolding sevenPlaces
 place-at s first n i h =
     List·getD-append (segmentsIn s first n) (replicate (7 - length (segmentsIn s first n)) flat) flat i (rw (length-segmentsIn s first n) h) ∙ segment-at s first n i h
 
-tangent-is : (s : List ℕ) (yield first n i : ℕ) → i < n → tangentOf (sideIn s yield first n) i ≡ tangentIn s (first + i)
+tangent-is : (s : List ℕ) (yield first n i : ℕ) → i < n → tangentOf (sideIn s yield first n) i ≡ segmentTangentIn s (first + i)
 tangent-is s yield first n i h = ap (λ (g : Segment). g .tangent .0) (place-at s first n i h)
 
-length-is : (s : List ℕ) (yield first n i : ℕ) → i < n → lengthOf (sideIn s yield first n) i ≡ lengthIn s (first + i)
+length-is : (s : List ℕ) (yield first n i : ℕ) → i < n → lengthAt (sideIn s yield first n) i ≡ segmentLengthIn s (first + i)
 length-is s yield first n i h = ap (λ (g : Segment). g .length .0) (place-at s first n i h)
 
 seven : (s : List ℕ) (first n : ℕ) → n ≤ 7 → length (sevenPlaces (segmentsIn s first n)) ≡ 7
@@ -69,22 +68,22 @@ seven s first n h =
     rw (length-append (segmentsIn s first n) (replicate (7 - length (segmentsIn s first n)) flat), length-replicate (7 - length (segmentsIn s first n)) flat, length-segmentsIn s first n) (omega arith)
 
 -- A length that is right is at most the greatest.
-length-most : (s : List ℕ) (first n i : ℕ) → lengthRight s first n i ≡ true → lengthIn s (first + i) ≤ mostLength
+length-most : (s : List ℕ) (first n i : ℕ) → lengthRight s first n i ≡ true → segmentLengthIn s (first + i) ≤ mostLength
 length-most s first n i = by-place (eqb (i + 1) n)
   where
     x : ℕ
-    x = lengthIn s (first + i)
+    x = segmentLengthIn s (first + i)
 
-    by-place : (t : Bool) → pick t (eqb x 0) (within 1 mostLength x) ≡ true → x ≤ mostLength
+    by-place : (t : Bool) → cond t (eqb x 0) (within 1 mostLength x) ≡ true → x ≤ mostLength
     by-place true e = let none = eqb-true x 0 e in omega arith
     by-place false e = within-bounds 1 mostLength x e .1
 
 -- A tangent that keeps its rule.
 tangent-kept : (s : List ℕ) (first i : ℕ) → tangentRight s first i ≡ true
-    → (tangentIn s (first + i) < modulusIn s) × (0 < i → tangentIn s (first + i) ≤ tangentIn s (first + i - 1))
+    → (segmentTangentIn s (first + i) < modulusIn s) × (0 < i → segmentTangentIn s (first + i) ≤ segmentTangentIn s (first + i - 1))
 tangent-kept s first i e =
-    let both = both-hold (ltb (tangentIn s (first + i)) (modulusIn s)) (eqb i 0 || leb (tangentIn s (first + i)) (tangentIn s (first + i - 1))) e in
-    (ltb-true (tangentIn s (first + i)) (modulusIn s) (both .0), λ h. leb-true (tangentIn s (first + i)) (tangentIn s (first + i - 1)) (rw (ne-eqb i 0 (λ z. omega arith)) at (both .1)))
+    let both = both-hold (ltb (segmentTangentIn s (first + i)) (modulusIn s)) (eqb i 0 || leb (segmentTangentIn s (first + i)) (segmentTangentIn s (first + i - 1))) e in
+    (ltb-true (segmentTangentIn s (first + i)) (modulusIn s) (both .0), λ h. leb-true (segmentTangentIn s (first + i)) (segmentTangentIn s (first + i - 1)) (rw (ne-eqb i 0 (λ z. omega arith)) at (both .1)))
 
 -- A side whose yield, lengths and tangents are right.
 side-sound : (s : List ℕ) (yield first n : ℕ) → 1 ≤ n → n ≤ 7 → within 1 mostYield yield ≡ true → lengthsRight s first n ≡ true
@@ -92,7 +91,7 @@ side-sound : (s : List ℕ) (yield first n : ℕ) → 1 ≤ n → n ≤ 7 → wi
 unfolding lengthsRight tangentsRight
 side-sound s yield first n some few y lengths tangents =
     let bounds = within-bounds 1 mostYield yield y in
-    let kept : (i : ℕ) → i < n → (tangentIn s (first + i) < modulusIn s) × (0 < i → tangentIn s (first + i) ≤ tangentIn s (first + i - 1)) =
+    let kept : (i : ℕ) → i < n → (segmentTangentIn s (first + i) < modulusIn s) × (0 < i → segmentTangentIn s (first + i) ≤ segmentTangentIn s (first + i - 1)) =
     λ i h. tangent-kept s first i (all-below-holds (tangentRight s first) n i tangents h) in
     record {
       count-least = some;
@@ -103,14 +102,10 @@ side-sound s yield first n some few y lengths tangents =
       tangents-below = λ i h. omega (arith, tangent-is s yield first n i h, kept i h .0);
       tangents-fall = λ i h.
           let one-back : first + (i + 1) - 1 ≡ first + i = omega arith in
-          let falls : tangentIn s (first + (i + 1)) ≤ tangentIn s (first + (i + 1) - 1) = kept (i + 1) h .1 (omega arith) in
-          omega (arith, tangent-is s yield first n (i + 1) h, tangent-is s yield first n i (omega arith), falls, ap (tangentIn s) one-back);
+          let falls : segmentTangentIn s (first + (i + 1)) ≤ segmentTangentIn s (first + (i + 1) - 1) = kept (i + 1) h .1 (omega arith) in
+          omega (arith, tangent-is s yield first n (i + 1) h, tangent-is s yield first n i (omega arith), falls, ap (segmentTangentIn s) one-back);
       lengths-most = λ i h. omega (arith, length-is s yield first n i h, length-most s first n i (all-below-holds (lengthRight s first n) n i lengths h));
     }
-
--- The counts are of three bits.
-few-segments : (s : List ℕ) → (tensionCount s ≤ 7) × (compressionCount s ≤ 7)
-few-segments s = (omega (arith, field-below s 2 3), omega (arith, field-below s 5 3))
 
 one-of-kinematic : (law : Law) (n : ℕ) → within 1 (mostTension law) n ≡ true → law ≡ Kinematic → n ≡ 1
 one-of-kinematic law n e k =
@@ -124,14 +119,14 @@ compression-there law n y c e a =
     (omega (arith, eqb-true n (compressionOf law) c, ap compressionOf a), rw a at e)
 
 -- The values of a sheet with every part right.
-values-sound : (s : List ℕ) → countsRight s ≡ true → constantsRight s ≡ true → yieldsRight s (lawIn s) ≡ true
+values-sound : (s : List ℕ) → sheetCountsRight s ≡ true → constantsRight s ≡ true → yieldsRight s (lawIn s) ≡ true
     → lengthsRight s 0 (tensionCount s) ≡ true → lengthsRight s (tensionCount s) (compressionCount s) ≡ true
     → tangentsRight s 0 (tensionCount s) ≡ true → tangentsRight s (tensionCount s) (compressionCount s) ≡ true → SheetSound (sheetOf s)
-unfolding countsRight constantsRight yieldsRight sheetOf
+unfolding sheetCountsRight constantsRight yieldsRight sheetOf
 values-sound s counts constants yields lengthsT lengthsC tangentsT tangentsC =
     let counted = both-hold (within 1 (mostTension (lawIn s)) (tensionCount s)) (eqb (compressionCount s) (compressionOf (lawIn s))) counts in
     let constant = three-hold (within 1 mostModulus (modulusIn s)) (within 0 mostExpansion (expansionIn s)) (temperatureRight (referenceIn s)) constants in
-    let yield = three-hold (eqb (zeroBits s) 0) (within 1 mostYield (tensionYield s)) (compressionYieldRight (lawIn s) (compressionYield s)) yields in
+    let yield = three-hold (eqb (headerZeroBits s) 0) (within 1 mostYield (tensionYield s)) (compressionYieldRight (lawIn s) (compressionYield s)) yields in
     let modulus = within-bounds 1 mostModulus (modulusIn s) (constant .0) in
     let some = within-bounds 1 (mostTension (lawIn s)) (tensionCount s) (counted .0) in
     record {
@@ -148,13 +143,14 @@ values-sound s counts constants yields lengthsT lengthsC tangentsT tangentsC =
 
 -- A sheet that passes 1 to 3 is the one that its bytes hold, and is sound.
 pub passed-sound : (s : List ℕ) {h : Sheet} → firstOf (sheetRefusals s) (sheetOf s) ≡ passes h → (h ≡ sheetOf s) × SheetSound h
-unfolding sheetRefusals fieldRefusals numbersRight
+unfolding sheetRefusals sheetFieldRefusals headerRight
 passed-sound s {h} e =
     let one = passes-line 1 _ _ _ e in
     let two = passes-line 2 _ _ _ (one .1) in
     let three = passes-line 3 _ _ _ (two .1) in
     let same = passes-none (sheetOf s) (three .1) in
-    let fields = three-hold (numbersRight s) _ _ (not-false _ (two .0)) in
-    let numbers = three-hold (countsRight s) (constantsRight s) (yieldsRight s (lawIn s)) (fields .0) in
-    let tangents = both-hold _ _ (not-false _ (three .0)) in
-    (same, subst SheetSound (sym same) (values-sound s (numbers .0) (numbers .1) (numbers .2) (fields .1) (fields .2) (tangents .0) (tangents .1)))
+    let fields = both-hold (headerRight s) _ (not-false _ (two .0)) in
+    let header = three-hold (sheetCountsRight s) (constantsRight s) (yieldsRight s (lawIn s)) (fields .0) in
+    let lengths = both-hold (lengthsRight s 0 (tensionCount s)) _ (fields .1) in
+    let tangents = both-hold (tangentsRight s 0 (tensionCount s)) _ (not-false _ (three .0)) in
+    (same, subst SheetSound (sym same) (values-sound s (header .0) (header .1) (header .2) (lengths .0) (lengths .1) (tangents .0) (tangents .1)))

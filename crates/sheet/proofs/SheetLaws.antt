@@ -1,7 +1,7 @@
--- Laws of the sheet's conditions: the bounds by which the reader tests a field say the same as document 01's words.
+-- Laws of the sheet's conditions: the bounds by which the reader tests a field say the same as SPEC 3.7 and 3.8.
 use Prim.Native.Nat.{ℕ, zero, suc, _+_, _-_, _*_, _≤_, _<_}
 use mathlib.Core.Path.{_≡_, refl, sym, _∙_}
-use mathlib.Core.Bool.{Bool, true, false, _&&_, _||_, and-false}
+use mathlib.Core.Bool.{Bool, true, false, _&&_, _||_, and-false, cond}
 use mathlib.Core.List.{List, [], _∷_, _++_}
 use native.Mathlib.Decide.{decLt}
 use native.Mathlib.Omega.{arith}
@@ -11,16 +11,21 @@ use lib.ListN.{length, replicate, set, length-append}
 use borrow.Author.Tests.{ltb-true, le-leb}
 use lib.Dec.{eqb, ltb, leb}
 use lib.Seq.{set-at, append-snoc}
-use Rattle.refusals.specs.Table.{pick}
 use Rattle.ranges.specs.Ranges.{mostYield, mostLength}
 use Rattle.law.specs.declared.Law.{Law}
 use Rattle.law.specs.declared.Law.the-variants.{IsotropicLine, IsotropicCurve, Kinematic, Asymmetric}
 use Rattle.curve.specs.Sides.{flat}
 use Rattle.bits.specs.Field.{within}
+use Rattle.bits.proofs.FieldLaws.{field-at-below}
 use Rattle.bits.proofs.RangeLaws.{within-itself}
-use Rattle.sheet.specs.Sheets.{compressionOf, compressionYieldRight, lengthRight, lengthIn, allBelow, modulusIn, tangentIn, tangentRight, segmentIn, segmentsIn, sevenPlaces, lengthsRight}
+use Rattle.sheet.specs.SheetLayout.{headerLayout}
+use Rattle.sheet.specs.Sheets.{tensionCount, compressionCount, compressionOf, compressionYieldRight, lengthRight, segmentLengthIn, allBelow, modulusIn, segmentTangentIn, tangentRight, segmentIn, segmentsIn, sevenPlaces, lengthsRight}
 use Rattle.sheet.specs.declared.SegmentsRead.{SegmentsRead}
-use Rattle.sheet.specs.Parts.{leastLength, segmentsRead}
+use Rattle.sheet.specs.ReaderAnswers.{leastLength, segmentsRead}
+
+-- The counts are of three bits.
+pub few-segments : (s : List ℕ) → (tensionCount s ≤ 7) × (compressionCount s ≤ 7)
+few-segments s = (omega (arith, field-at-below headerLayout s 1), omega (arith, field-at-below headerLayout s 2))
 
 pub compression-sides : (law : Law) → compressionOf law ≤ 1
 compression-sides IsotropicLine = omega arith
@@ -37,16 +42,16 @@ compression-yield-bounds Asymmetric y = refl
 pub least-length-small : (i count : ℕ) → leastLength i count ≤ 1
 least-length-small i count = by-place (eqb (i + 1) count)
   where
-    by-place : (t : Bool) → pick t 0 1 ≤ 1
+    by-place : (t : Bool) → cond t 0 1 ≤ 1
     by-place true = omega arith
     by-place false = omega arith
 
 pub length-bounds : (s : List ℕ) (first count i : ℕ)
-    → within (leastLength i count) (leastLength i count * mostLength) (lengthIn s (first + i)) ≡ lengthRight s first count i
+    → within (leastLength i count) (leastLength i count * mostLength) (segmentLengthIn s (first + i)) ≡ lengthRight s first count i
 length-bounds s first count i = by-place (eqb (i + 1) count)
   where
-    by-place : (t : Bool) → within (pick t 0 1) (pick t 0 1 * mostLength) (lengthIn s (first + i)) ≡ pick t (eqb (lengthIn s (first + i)) 0) (within 1 mostLength (lengthIn s (first + i)))
-    by-place true = within-itself 0 (lengthIn s (first + i))
+    by-place : (t : Bool) → within (cond t 0 1) (cond t 0 1 * mostLength) (segmentLengthIn s (first + i)) ≡ cond t (eqb (segmentLengthIn s (first + i)) 0) (within 1 mostLength (segmentLengthIn s (first + i)))
+    by-place true = within-itself 0 (segmentLengthIn s (first + i))
     by-place false = refl
 
 -- A test that holds below i and at i holds below i + 1,
@@ -83,14 +88,14 @@ places-more s first i h =
     rw (add-one i, free, left, set-at l flat (replicate (6 - i) flat) g i (length-segmentsIn s first i)) (sym (append-snoc l g (replicate (6 - i) flat)))
 
 -- A tangent below Young's modulus keeps its rule exactly where it isn't above the one before, the modulus standing before the first.
-pub tangent-rule : (s : List ℕ) (first i : ℕ) → ltb (tangentIn s (first + i)) (modulusIn s) ≡ true
-    → tangentRight s first i ≡ leb (tangentIn s (first + i)) (pick (eqb i 0) (modulusIn s) (tangentIn s (first + i - 1)))
+pub tangent-rule : (s : List ℕ) (first i : ℕ) → ltb (segmentTangentIn s (first + i)) (modulusIn s) ≡ true
+    → tangentRight s first i ≡ leb (segmentTangentIn s (first + i)) (cond (eqb i 0) (modulusIn s) (segmentTangentIn s (first + i - 1)))
 tangent-rule s first i below = rw below (by-place (eqb i 0))
   where
     t : ℕ
-    t = tangentIn s (first + i)
+    t = segmentTangentIn s (first + i)
 
-    by-place : (b : Bool) → b || leb t (tangentIn s (first + i - 1)) ≡ leb t (pick b (modulusIn s) (tangentIn s (first + i - 1)))
+    by-place : (b : Bool) → b || leb t (segmentTangentIn s (first + i - 1)) ≡ leb t (cond b (modulusIn s) (segmentTangentIn s (first + i - 1)))
     by-place true = sym (le-leb t (modulusIn s) (le-of-lt (ltb-true t (modulusIn s) below)))
     by-place false = refl
 
@@ -99,7 +104,7 @@ pub segments-right : (s : List ℕ) (first count : ℕ) → segmentsRead s first
 unfolding segmentsRead
 segments-right s first count = by-test (lengthsRight s first count)
   where
-    by-test : (t : Bool) → pick {A = SegmentsRead} t (record { right = true; segments = sevenPlaces (segmentsIn s first count) }) (record { right = false; segments = sevenPlaces [] }) .right ≡ t
+    by-test : (t : Bool) → cond {A = SegmentsRead} t (record { right = true; segments = sevenPlaces (segmentsIn s first count) }) (record { right = false; segments = sevenPlaces [] }) .right ≡ t
     by-test true = refl
     by-test false = refl
 

@@ -1,4 +1,6 @@
+pub mod SheetLayout
 pub mod Sheets
-pub mod Parts
+pub mod ReaderAnswers
 pub mod Sound
 pub mod Thermal
+pub mod Bytes

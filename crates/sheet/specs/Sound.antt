@@ -1,23 +1,17 @@
--- What holds of every sheet that passes 1 to 3, as numbers (proofs/Passed shows it): what the laws and the steps ask of a sheet.
--- Definitions only; nothing is assumed.
+-- What the laws use of a sheet that passes 1 to 3 (SPEC 3.10), cited by response, rod, carry, judge, accuracy and the demands; definitions
+-- only, nothing is assumed. proofs/Passed shows it.
 use Prim.Native.Nat.{ℕ, _+_, _*_, _≤_, _<_}
 use mathlib.Core.Path.{_≡_}
 use mathlib.Core.Bool.{true}
-use lib.ListN.{length, getD}
+use lib.ListN.{length}
 use Rattle.ranges.specs.Ranges.{temperatureRight, mostModulus, mostExpansion, mostYield, mostLength, grains}
 use Rattle.law.specs.declared.Law.the-variants.{Kinematic, Asymmetric}
 use Rattle.curve.specs.declared.Side.{Side}
-use Rattle.curve.specs.Sides.{flat}
+use Rattle.curve.specs.Sides.{lengthAt}
+pub use Rattle.curve.specs.Sides.{tangentOf}
 use Rattle.sheet.specs.declared.Sheet.{Sheet}
 
--- Segment i of a side.
-abbrev pub tangentOf : Side → ℕ → ℕ
-tangentOf side i = getD (side .segments) i flat .tangent .0
-
-abbrev pub lengthOf : Side → ℕ → ℕ
-lengthOf side i = getD (side .segments) i flat .length .0
-
--- One side, where Young's modulus is E.
+-- SPEC 3.10: one side, E being Young's modulus.
 pub record SideSound (E : ℕ) (side : Side) : Type 0 where
   pub count-least : 1 ≤ side .count
   pub count-most : side .count ≤ 7
@@ -26,8 +20,9 @@ pub record SideSound (E : ℕ) (side : Side) : Type 0 where
   pub yield-most : side .«yield_stress» .0 ≤ mostYield * grains
   pub tangents-below : (i : ℕ) → i < side .count → tangentOf side i < E
   pub tangents-fall : (i : ℕ) → i + 1 < side .count → tangentOf side (i + 1) ≤ tangentOf side i
-  pub lengths-most : (i : ℕ) → i < side .count → lengthOf side i ≤ mostLength
+  pub lengths-most : (i : ℕ) → i < side .count → lengthAt side i ≤ mostLength
 
+-- SPEC 3.10: the sheet. Law 3 alone has a compression side.
 pub record SheetSound (h : Sheet) : Type 0 where
   pub modulus-least : 1 ≤ h .modulus .0
   pub modulus-most : h .modulus .0 ≤ mostModulus

@@ -1,4 +1,6 @@
-// The material sheet: what it says, and its reader.
+// The material sheet: what it holds (SPEC 3.9), and its reader.
+mod layout; // layout.rt: where everything stands in the bytes
+
 use bits::Signed;
 use bits::Unsigned;
 use curve::Segment;
@@ -11,17 +13,19 @@ use units::Modulus;
 use units::Nano;
 use units::Tenths;
 ghost use mathlib.Core.Path.{_≡_};
-ghost use Prim.Native.Nat.{_≤_, _<_};
+ghost use Prim.Native.Nat.{_*_, _≤_, _<_};
 ghost use mathlib.Core.List.{[]};
 ghost use mathlib.Core.Bool.{true};
 ghost use lib.IntN.{natAbs};
 ghost use Rattle.refusals.specs.Table.{firstOf};
 ghost use Rattle.ranges.specs.Ranges.{temperatureRight};
+ghost use Rattle.bits.specs.Field.{unsignedIf, within};
 ghost use Rattle.units.specs.Kinds.{nano};
+ghost use Rattle.sheet.specs.SheetLayout.{segmentAt, mostSegments, longestSheet};
 ghost use Rattle.sheet.specs.Sound.{SheetSound};
 ghost use Rattle.sheet.specs.Thermal.{thermalOf};
-ghost use Rattle.sheet.specs.Sheets.{mostTension, compressionOf, modulusIn, tangentsRight, sevenPlaces, fieldRefusals, sheetRefusals, sheetOf, readMeaning};
-ghost use Rattle.sheet.specs.Parts.{countsIn, constantsIn, yieldsIn, numbersIn, leastLength, segmentsRead, acceptedAs};
+ghost use Rattle.sheet.specs.Sheets.{mostTension, compressionOf, countedLength, segmentLengthIn, modulusIn, segmentTangentIn, tangentsRight, sevenPlaces, headerRight, sheetFieldRefusals, sheetRefusals, sheetOf, sheetReadMeaning};
+ghost use Rattle.sheet.specs.ReaderAnswers.{countsIn, constantsIn, yieldsIn, headerIn, headerOf, leastLength, segmentsRead, acceptedAs};
 
 // What a sheet that passes says: yields in grains, lengths in nano, tangents and Young's modulus in MPa.
 pub struct Sheet {
@@ -82,15 +86,15 @@ enum YieldsRead {
     OutOfRange,
 }
 
-// All that stands in the sheet's first 14 bytes.
-struct Numbers {
+// All that stands in front of the segments.
+struct Header {
     counts: Counts,
     constants: Constants,
     yields: Yields,
 }
 
-enum NumbersRead {
-    Right(Numbers),
+enum HeaderRead {
+    Right(Header),
     OutOfRange,
 }
 
@@ -125,14 +129,26 @@ fn compression_of(law: Law) -> u64
 fn read_counts(s: &[u8]) -> CountsRead
     ensures { λ r. ⌜ r ≡ countsIn (now (s .entry)) ⌝ }
 {
-    let number = bits::read(s, 0, 2);
+    let number = bits::read(s, layout::LAW_AT, layout::LAW_WIDTH);
     let law = Law::of(number);
     let most = most_tension(law);
-    let Unsigned::Value(tension) = bits::read_unsigned(s, 2, 3, 1, most) else {
+    let Unsigned::Value(tension) = bits::read_unsigned(
+        s,
+        layout::TENSION_COUNT_AT,
+        layout::COUNT_WIDTH,
+        1,
+        most,
+    ) else {
         return CountsRead::OutOfRange;
     };
     let sides = compression_of(law);
-    let Unsigned::Value(compression) = bits::read_unsigned(s, 5, 3, sides, sides) else {
+    let Unsigned::Value(compression) = bits::read_unsigned(
+        s,
+        layout::COMPRESSION_COUNT_AT,
+        layout::COUNT_WIDTH,
+        sides,
+        sides,
+    ) else {
         return CountsRead::OutOfRange;
     };
     CountsRead::Right(Counts {
@@ -145,17 +161,28 @@ fn read_counts(s: &[u8]) -> CountsRead
 fn read_constants(s: &[u8]) -> ConstantsRead
     ensures { λ r. ⌜ r ≡ constantsIn (now (s .entry)) ⌝ }
 {
-    let Unsigned::Value(modulus) = bits::read_unsigned(s, 8, 20, 1, ranges::MOST_MODULUS) else {
+    let Unsigned::Value(modulus) = bits::read_unsigned(
+        s,
+        layout::MODULUS_AT,
+        layout::MODULUS_WIDTH,
+        1,
+        ranges::MOST_MODULUS,
+    ) else {
         return ConstantsRead::OutOfRange;
     };
-    let Unsigned::Value(expansion) = bits::read_unsigned(s, 28, 14, 0, ranges::MOST_EXPANSION)
-    else {
+    let Unsigned::Value(expansion) = bits::read_unsigned(
+        s,
+        layout::EXPANSION_AT,
+        layout::EXPANSION_WIDTH,
+        0,
+        ranges::MOST_EXPANSION,
+    ) else {
         return ConstantsRead::OutOfRange;
     };
     let Signed::Value(reference) = bits::read_signed(
         s,
-        42,
-        16,
+        layout::REFERENCE_AT,
+        layout::REFERENCE_WIDTH,
         ranges::LEAST_TEMPERATURE,
         ranges::MOST_TEMPERATURE,
     ) else {
@@ -172,15 +199,28 @@ fn read_constants(s: &[u8]) -> ConstantsRead
 fn read_yields(s: &[u8], law: Law) -> YieldsRead
     ensures { λ r. ⌜ r ≡ yieldsIn (now (s .entry)) law ⌝ }
 {
-    let Unsigned::Value(_) = bits::read_unsigned(s, 106, 6, 0, 0) else {
+    let Unsigned::Value(_) = bits::read_unsigned(s, layout::ZERO_AT, layout::ZERO_WIDTH, 0, 0)
+    else {
         return YieldsRead::OutOfRange;
     };
-    let Unsigned::Value(tension) = bits::read_unsigned(s, 58, 24, 1, ranges::MOST_YIELD) else {
+    let Unsigned::Value(tension) = bits::read_unsigned(
+        s,
+        layout::TENSION_YIELD_AT,
+        layout::YIELD_WIDTH,
+        1,
+        ranges::MOST_YIELD,
+    ) else {
         return YieldsRead::OutOfRange;
     };
     let sides = compression_of(law);
     let most = sides * ranges::MOST_YIELD;
-    let Unsigned::Value(compression) = bits::read_unsigned(s, 82, 24, sides, most) else {
+    let Unsigned::Value(compression) = bits::read_unsigned(
+        s,
+        layout::COMPRESSION_YIELD_AT,
+        layout::YIELD_WIDTH,
+        sides,
+        most,
+    ) else {
         return YieldsRead::OutOfRange;
     };
     let tension_grains = tension * ranges::GRAINS;
@@ -191,20 +231,20 @@ fn read_yields(s: &[u8], law: Law) -> YieldsRead
     })
 }
 
-fn read_numbers(s: &[u8]) -> NumbersRead
-    ensures { λ r. ⌜ r ≡ numbersIn (now (s .entry)) ⌝ }
+fn read_header(s: &[u8]) -> HeaderRead
+    ensures { λ r. ⌜ r ≡ headerIn (now (s .entry)) ⌝ }
 {
     let CountsRead::Right(counts) = read_counts(s) else {
-        return NumbersRead::OutOfRange;
+        return HeaderRead::OutOfRange;
     };
     let ConstantsRead::Right(constants) = read_constants(s) else {
-        return NumbersRead::OutOfRange;
+        return HeaderRead::OutOfRange;
     };
     let law = counts.law;
     let YieldsRead::Right(yields) = read_yields(s, law) else {
-        return NumbersRead::OutOfRange;
+        return HeaderRead::OutOfRange;
     };
-    NumbersRead::Right(Numbers {
+    HeaderRead::Right(Header {
         counts: counts,
         constants: constants,
         yields: yields,
@@ -220,6 +260,33 @@ fn least_length(i: usize, count: usize) -> u64
         return 0;
     }
     1
+}
+
+// The bit where a segment of the sheet begins.
+fn segment_at(i: usize) -> usize
+    requires { ⌜ i < mostSegments ⌝ }
+    ensures { λ r. ⌜ r ≡ segmentAt i ⌝ }
+    ensures most { λ r. ⌜ r ≤ 8 * longestSheet ⌝ }
+{
+    8 * (layout::HEADER_LENGTH + layout::SEGMENT_LENGTH * i)
+}
+
+// The length of a segment, within its bounds.
+fn read_length(s: &[u8], i: usize, least: u64, most: u64) -> Unsigned
+    requires { ⌜ i < mostSegments ⌝ }
+    ensures { λ r. ⌜ r ≡ unsignedIf (within least most (segmentLengthIn (now (s .entry)) i)) (segmentLengthIn (now (s .entry)) i) ⌝ }
+{
+    let at = segment_at(i) + layout::LENGTH_AT;
+    bits::read_unsigned(s, at, layout::LENGTH_WIDTH, least, most)
+}
+
+// The tangent modulus of a segment.
+fn read_tangent(s: &[u8], i: usize) -> u64
+    requires { ⌜ i < mostSegments ⌝ }
+    ensures { λ r. ⌜ r ≡ segmentTangentIn (now (s .entry)) i ⌝ }
+{
+    let at = segment_at(i) + layout::TANGENT_AT;
+    bits::read(s, at, layout::TANGENT_WIDTH)
 }
 
 fn no_segments() -> [Segment; 7]
@@ -239,16 +306,15 @@ fn read_segments(s: &[u8], first: usize, count: usize) -> SegmentsRead
     let mut segments = no_segments();
     let mut i = 0;
     while i < count {
-        let at = 112 + 48 * (first + i);
         let least = least_length(i, count);
         let most = least * ranges::MOST_LENGTH;
-        let Unsigned::Value(length) = bits::read_unsigned(s, at, 28, least, most) else {
+        let Unsigned::Value(length) = read_length(s, first + i, least, most) else {
             return SegmentsRead {
                 right: false,
                 segments: no_segments(),
             };
         };
-        let tangent = bits::read(s, at + 28, 20);
+        let tangent = read_tangent(s, first + i);
         segments[i] = Segment {
             length: Length(length),
             tangent: Modulus(tangent),
@@ -270,8 +336,7 @@ fn tangents_right(s: &[u8], first: usize, count: usize, modulus: Modulus) -> boo
     let mut before = most;
     let mut i = 0;
     while i < count {
-        let at = 112 + 48 * (first + i);
-        let tangent = bits::read(s, at + 28, 20);
+        let tangent = read_tangent(s, first + i);
         if most <= tangent {
             return false;
         }
@@ -306,13 +371,13 @@ fn refused(verdict: Verdict) -> SheetRead
     }
 }
 
-// A sheet whose numbers and segments were read.
-fn accepted(numbers: Numbers, tension: [Segment; 7], compression: [Segment; 7]) -> SheetRead
-    ensures { λ r. ⌜ r ≡ acceptedAs numbers tension compression ⌝ }
+// A sheet whose header and segments were read.
+fn accepted(header: Header, tension: [Segment; 7], compression: [Segment; 7]) -> SheetRead
+    ensures { λ r. ⌜ r ≡ acceptedAs header tension compression ⌝ }
 {
-    let counts = numbers.counts;
-    let constants = numbers.constants;
-    let yields = numbers.yields;
+    let counts = header.counts;
+    let constants = header.constants;
+    let yields = header.yields;
     let law = counts.law;
     let modulus = constants.modulus;
     let expansion = constants.expansion;
@@ -340,55 +405,69 @@ fn accepted(numbers: Numbers, tension: [Segment; 7], compression: [Segment; 7]) 
     }
 }
 
-// Refusals 2 and 3, for bytes whose length is right.
-fn read_fields(s: &[u8]) -> SheetRead
-    ensures { λ r. ⌜ readMeaning r ≡ firstOf (fieldRefusals (now (s .entry))) (sheetOf (now (s .entry))) ⌝ }
+// Refusals 2 and 3 where the header is right and was read.
+fn read_sides(s: &[u8], header: Header) -> SheetRead
+    requires { ⌜ (headerRight (now s) ≡ true) × (header ≡ headerOf (now s)) ⌝ }
+    ensures { λ r. ⌜ sheetReadMeaning r ≡ firstOf (sheetFieldRefusals (now (s .entry))) (sheetOf (now (s .entry))) ⌝ }
 {
-    let NumbersRead::Right(numbers) = read_numbers(s) else {
-        return refused(Verdict::OutOfRange);
-    };
-    let counts = numbers.counts;
+    let counts = header.counts;
     let tensions = counts.tension;
     let compressions = counts.compression;
     let tension = read_segments(s, 0, tensions);
-    if !tension.right {
-        return refused(Verdict::OutOfRange);
-    }
     let compression = read_segments(s, tensions, compressions);
-    if !compression.right {
+    let lengths_right = tension.right & compression.right;
+    if !lengths_right {
         return refused(Verdict::OutOfRange);
     }
-    let constants = numbers.constants;
+    let constants = header.constants;
     let modulus = constants.modulus;
-    if !tangents_right(s, 0, tensions, modulus) {
-        return refused(Verdict::WrongTangent);
-    }
-    if !tangents_right(s, tensions, compressions, modulus) {
+    let tension_falls = tangents_right(s, 0, tensions, modulus);
+    let compression_falls = tangents_right(s, tensions, compressions, modulus);
+    let tangents_right = tension_falls & compression_falls;
+    if !tangents_right {
         return refused(Verdict::WrongTangent);
     }
     let tension_segments = tension.segments;
     let compression_segments = compression.segments;
-    accepted(numbers, tension_segments, compression_segments)
+    accepted(header, tension_segments, compression_segments)
+}
+
+// Refusals 2 and 3, for bytes whose length is right.
+fn read_fields(s: &[u8]) -> SheetRead
+    ensures { λ r. ⌜ sheetReadMeaning r ≡ firstOf (sheetFieldRefusals (now (s .entry))) (sheetOf (now (s .entry))) ⌝ }
+{
+    let HeaderRead::Right(header) = read_header(s) else {
+        return refused(Verdict::OutOfRange);
+    };
+    read_sides(s, header)
+}
+
+// How long a sheet is by its own counts, valid or not.
+pub fn counted_length(s: &[u8]) -> usize
+    ensures { λ r. ⌜ r ≡ countedLength (now (s .entry)) ⌝ }
+    ensures most { λ r. ⌜ r ≤ longestSheet ⌝ }
+{
+    let tensions = bits::read(s, layout::TENSION_COUNT_AT, layout::COUNT_WIDTH);
+    let compressions = bits::read(s, layout::COMPRESSION_COUNT_AT, layout::COUNT_WIDTH);
+    let segments = (tensions + compressions) as usize;
+    layout::HEADER_LENGTH + layout::SEGMENT_LENGTH * segments
 }
 
 // Reads any bytes: the sheet, or which refusal it gets.
 pub fn read(s: &[u8]) -> SheetRead
-    ensures { λ r. ⌜ readMeaning r ≡ firstOf (sheetRefusals (now (s .entry))) (sheetOf (now (s .entry))) ⌝ }
+    ensures { λ r. ⌜ sheetReadMeaning r ≡ firstOf (sheetRefusals (now (s .entry))) (sheetOf (now (s .entry))) ⌝ }
 {
-    if s.len() < 14 {
+    if s.len() < layout::HEADER_LENGTH {
         return refused(Verdict::WrongLength);
     }
-    let tensions = bits::read(s, 2, 3);
-    let compressions = bits::read(s, 5, 3);
-    let segments = (tensions + compressions) as usize;
-    let whole = 14 + 6 * segments;
+    let whole = counted_length(s);
     if s.len() != whole {
         return refused(Verdict::WrongLength);
     }
     read_fields(s)
 }
 
-// The thermal strain at a temperature.
+// The thermal strain at a temperature (SPEC 5.1).
 pub fn thermal(sheet: Sheet, temperature: Tenths) -> Nano
     requires { ⌜ SheetSound sheet × (temperatureRight (temperature .0) ≡ true) ⌝ }
     ensures { λ r. ⌜ r ≡ nano (thermalOf sheet (temperature .0)) ⌝ }

@@ -1,6 +1,3 @@
-pub mod RowFits
-pub mod PairAnswers
+pub mod PieceLaws
 pub mod WalkLaws
-pub mod Tables
-pub mod JudgeLaws
 pub mod CallLaws

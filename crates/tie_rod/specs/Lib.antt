@@ -1,3 +1,2 @@
-pub mod Pairs
 pub mod Calls
-pub mod Parts
+pub mod Answers

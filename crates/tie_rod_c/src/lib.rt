@@ -1,11 +1,23 @@
-// The entries as C calls them: each is thin above the entry of its name.
+// The entries as C calls them (SPEC 9.10): each is thin above the entry of its name.
+use tie_rod::Reply;
 use tie_rod::entry;
 use tie_rod::entry::ForecastRead;
 ghost use mathlib.Core.Path.{_≡_};
-ghost use Rattle.tie_rod.specs.Calls.{answerNumber, forecastAnswer, pairLeaves, runLeaves, unusedAnswer, unusedLeft};
-ghost use Rattle.tie_rod_c.specs.Answers.{forecastPacked, packed};
+ghost use Prim.Native.Nat.{_≤_};
+ghost use Rattle.ranges.specs.Ranges.{mostPairs};
+ghost use Rattle.tie_rod.specs.Calls.{answerNumber, call, callLeaves, forecastAnswer, run, single, unusedAnswer, unusedLeft};
+ghost use Rattle.tie_rod_c.specs.Answers.{forecastPacked, packed, seen, seenOf};
 
-// A whole run.
+// The answer of a call as one number.
+fn pack(reply: Reply) -> u64
+    requires { ⌜ (reply .number ≤ 12) × (reply .place ≤ mostPairs) ⌝ }
+    ensures { λ r. ⌜ r ≡ packed reply ⌝ }
+{
+    let place = reply.place as u64;
+    reply.number + 256 * place
+}
+
+// A whole run (SPEC 9.6).
 #[no_mangle]
 pub extern "C" fn tie_rod_run(
     sheet: &[u8],
@@ -14,16 +26,12 @@ pub extern "C" fn tie_rod_run(
     rows: &mut [u8],
     next: &mut [u8],
 ) -> u64
-    ensures { λ r. ⌜ r ≡ packed (runLeaves (now (sheet .entry)) (now (state .entry)) (now (pairs .entry)) (now (rows .entry)) (now (next .entry)) .reply) ⌝ }
-    ensures rows { λ _. ⌜ now (rows .exit) ≡ runLeaves (now (sheet .entry)) (now (state .entry)) (now (pairs .entry)) (now (rows .entry)) (now (next .entry)) .rows ⌝ }
-    ensures next { λ _. ⌜ now (next .exit) ≡ runLeaves (now (sheet .entry)) (now (state .entry)) (now (pairs .entry)) (now (rows .entry)) (now (next .entry)) .next ⌝ }
+    ensures { λ r. ⌜ seen r (now (rows .exit)) (now (next .exit)) ≡ seenOf (callLeaves (now (sheet .entry)) (now (state .entry)) (call run (now (pairs .entry)) (now (rows .entry)) (now (next .entry)))) ⌝ }
 {
-    let reply = entry::run_bytes(sheet, state, pairs, rows, next);
-    let place = reply.place as u64;
-    reply.number + 256 * place
+    pack(entry::run_bytes(sheet, state, pairs, rows, next))
 }
 
-// A single pair.
+// A single pair (SPEC 9.6).
 #[no_mangle]
 pub extern "C" fn tie_rod_pair(
     sheet: &[u8],
@@ -32,16 +40,12 @@ pub extern "C" fn tie_rod_pair(
     rows: &mut [u8],
     next: &mut [u8],
 ) -> u64
-    ensures { λ r. ⌜ r ≡ packed (pairLeaves (now (sheet .entry)) (now (state .entry)) (now (pair .entry)) (now (rows .entry)) (now (next .entry)) .reply) ⌝ }
-    ensures rows { λ _. ⌜ now (rows .exit) ≡ pairLeaves (now (sheet .entry)) (now (state .entry)) (now (pair .entry)) (now (rows .entry)) (now (next .entry)) .rows ⌝ }
-    ensures next { λ _. ⌜ now (next .exit) ≡ pairLeaves (now (sheet .entry)) (now (state .entry)) (now (pair .entry)) (now (rows .entry)) (now (next .entry)) .next ⌝ }
+    ensures { λ r. ⌜ seen r (now (rows .exit)) (now (next .exit)) ≡ seenOf (callLeaves (now (sheet .entry)) (now (state .entry)) (call single (now (pair .entry)) (now (rows .entry)) (now (next .entry)))) ⌝ }
 {
-    let reply = entry::pair_bytes(sheet, state, pair, rows, next);
-    let place = reply.place as u64;
-    reply.number + 256 * place
+    pack(entry::pair_bytes(sheet, state, pair, rows, next))
 }
 
-// The tangent modulus that a state forecasts.
+// The tangent modulus that a state forecasts (SPEC 9.8).
 #[no_mangle]
 pub extern "C" fn tie_rod_forecast(sheet: &[u8], state: &[u8]) -> u64
     ensures { λ r. ⌜ r ≡ forecastPacked (forecastAnswer (now (sheet .entry)) (now (state .entry))) ⌝ }
@@ -52,7 +56,7 @@ pub extern "C" fn tie_rod_forecast(sheet: &[u8], state: &[u8]) -> u64
     }
 }
 
-// An unused rod.
+// An unused rod (SPEC 9.9).
 #[no_mangle]
 pub extern "C" fn tie_rod_unused(sheet: &[u8], state: &mut [u8; 37]) -> u64
     ensures { λ r. ⌜ r ≡ answerNumber (unusedAnswer (now (sheet .entry))) ⌝ }

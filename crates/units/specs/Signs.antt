@@ -1,15 +1,15 @@
--- "Magnitude and sign taken apart .. and negated back" (document 01, "Some places and their forms"). The magnitude is `natAbs` of lib.IntN.
--- Nothing is assumed.
+-- Sign and magnitude of a whole number (SPEC 2.3, 2.4), cited by response, rod and the proofs of units; definitions only, nothing is
+-- assumed. The magnitude is `natAbs` of lib.IntN.
 use Prim.Native.Nat.{ℕ}
 use mathlib.Core.Bool.{Bool, true, false}
 use lib.IntN.{ℤ, pos, negsuc, negℤ}
 
--- Below zero; `negsuc n` is -(n + 1).
+-- SPEC 2.4: below 0; `negsuc n` is -(n + 1).
 abbrev pub isNeg : ℤ → Bool
 isNeg (pos n) = false
 isNeg (negsuc n) = true
 
--- The whole number of a sign and a magnitude.
+-- SPEC 2.3: a whole number put together from its sign and its magnitude.
 abbrev pub withSign : Bool → ℕ → ℤ
 withSign true n = negℤ (pos n)
 withSign false n = pos n

@@ -1,5 +1,5 @@
-// The kinds of quantities. A sum or a difference stays in its kind; only a modulus leads from strain to stress, and only an expansion from
-// temperature to strain.
+// The kinds of quantity (SPEC 2.2, 2.3). A sum or a difference stays in its kind; only a modulus leads from strain to stress, and only an
+// expansion from temperature to strain.
 ghost use mathlib.Core.Path.{_≡_};
 ghost use Prim.Native.Nat.{_+_, _-_, _*_, _/_, _^_, _≤_, _<_};
 ghost use lib.Dec.{leb, ltb};
@@ -47,7 +47,7 @@ impl Nano {
         Nano(strain)
     }
 
-    // MPa times nano gives grains.
+    // MPa times nano is grains (SPEC 2.1).
     pub fn times(self, modulus: Modulus) -> Grain
         requires { ⌜ (modulus .0 < 2 ^ 63) × (modulus .0 * natAbs (self .0) < 2 ^ 63) ⌝ }
         ensures { λ r. ⌜ r ≡ grain (pos (modulus .0) *ℤ self .0) ⌝ }
@@ -62,6 +62,13 @@ impl Nano {
         ensures { λ r. ⌜ r ≡ lengthOf (natAbs (self .0)) ⌝ }
     {
         Length(size(self.0))
+    }
+
+    pub fn negative(self) -> bool
+        ensures { λ r. ⌜ r ≡ isNeg (self .0) ⌝ }
+    {
+        let strain = self.0;
+        strain < 0
     }
 }
 
@@ -134,7 +141,7 @@ impl Grain {
 }
 
 impl Length {
-    // MPa times nano gives grains.
+    // MPa times nano is grains (SPEC 2.1).
     pub fn times(self, modulus: Modulus) -> Magnitude
         requires { ⌜ modulus .0 * self .0 < 2 ^ 64 ⌝ }
         ensures { λ r. ⌜ r ≡ magnitude (modulus .0 * self .0) ⌝ }

@@ -1,4 +1,3 @@
-use borrow.Author.Needs.{needs}
 use mathlib.Core.Path.{_≡_, sym, ap, _∙_}
 use mathlib.Core.Bool.{true, false}
 use lib.IntN.{natAbs}
@@ -31,36 +30,36 @@ reached : (s : tie.Start) → let a = s .args in
     × (a .limits .second .0 ≡ limitAt (h .modulus .0) (curveOf (h .compression)) (natAbs (a .second .0)))
 reached s =
     let a = s .args in
-    let both = s .pre .1 ∙ ap (λ (l : Law). limitsUnder l (a .sheet) (a .first .0) (a .second .0)) (s .pre .0 .1) in
+    let both = s .pre .1 .0 ∙ ap (λ (l : Law). limitsUnder l (a .sheet) (a .first .0) (a .second .0)) (s .pre .0 .1) in
     (ap (λ (l : Limits). l .first .0) both, ap (λ (l : Limits). l .second .0) both)
 
 isotropic-requires : tie.Need-isotropic-requires
 isotropic-requires c κs =
-    let s = c .before .before .before in
+    let s = c .before .before in
     (readable s .1, ((abscissas s .1, s .pre .0 .0 .trial-most), reached s .1))
 
 returns : tie.Need-returns
 returns c =
     let then = c .before .before in
-    let s = then .before .before in
-    let below = sym (then .before .negative .ensures) ∙ then .if1 .taken in
-    asymmetric-response (s .args .sheet) (s .args .first .0) (s .args .second .0) (s .args .trial .0) (c .isotropic .result) true (s .pre .0 .1)
+    let s = then .before in
+    let below = sym (s .pre .1 .1) ∙ then .if1 .taken in
+    asymmetric-response (s .args .sheet) (s .args .first) (s .args .second) (s .args .trial) (c .isotropic .result) true (s .pre .0 .1)
     below (c .isotropic .ensures)
 
 isotropic-requires-2 : tie.Need-isotropic-requires-2
 isotropic-requires-2 c κs =
-    let s = c .before .before .before in
+    let s = c .before .before in
     (readable s .0, ((abscissas s .0, s .pre .0 .0 .trial-most), reached s .0))
 
 returns-2 : tie.Need-returns-2
 returns-2 c =
     let else = c .before .before in
-    let s = else .before .before in
-    let not-below = sym (else .before .negative .ensures) ∙ else .if1 .left in
-    asymmetric-response (s .args .sheet) (s .args .first .0) (s .args .second .0) (s .args .trial .0) (c .isotropic2 .result) false (s .pre .0 .1)
+    let s = else .before in
+    let not-below = sym (s .pre .1 .1) ∙ else .if1 .left in
+    asymmetric-response (s .args .sheet) (s .args .first) (s .args .second) (s .args .trial) (c .isotropic2 .result) false (s .pre .0 .1)
     not-below (c .isotropic2 .ensures)
 
 pub asymmetric-spec : {M : Type 1} → statement M
 asymmetric-spec =
     tie.close
-    (tie.spec (λ c κs. search needs) isotropic-requires returns isotropic-requires-2 returns-2)
+    (tie.spec isotropic-requires returns isotropic-requires-2 returns-2)

@@ -1,14 +1,15 @@
-use Prim.Native.Nat.{_+_, _-_, _<_, _^_}
+use Prim.Native.Nat.{_+_, _-_, _≤_, _<_}
 use mathlib.Core.Path.{_≡_, sym, _∙_}
 use mathlib.Core.Bool.{Bool, true, false}
 use native.Mathlib.Omega.{arith}
 use lib.IntN.{natAbs}
 use borrow.Author.Needs.{needs}
+use Rattle.ranges.specs.Ranges.{mostAbscissa}
 use Rattle.units.specs.Kinds.{magnitude}
 use Rattle.curve.specs.Curve.{limitAt}
 use Rattle.curve.specs.Sides.{curveOf}
-use Rattle.response.specs.Response.{isotropicMoved, movedMeaning}
-use Rattle.response.specs.Parts.{flowAt, flowToward, sideBy, sideFlow}
+use Rattle.response.specs.Response.{isotropicMoved, mostTrial, movedMeaning}
+use Rattle.response.specs.SideFlows.{flowAt, flowToward, sideBy, sideFlow}
 use Rattle.response.proofs.Branches.{side-still, side-moved, within-limit-elastic, past-limit-flows}
 use Rattle.response.proofs.isotropic.Statement.{statement}
 use Rattle.response.proofs.isotropic.Tie as tie
@@ -39,7 +40,7 @@ moved : (c : tie.After-known-told) → let flow = c .before .before .before in
     (limit < natAbs (a .trial .0)) × (magnitude (natAbs (a .abscissa .0) + (natAbs (a .trial .0) - limit)) ≡ c .before .moved .given .0 .0)
 moved c = let flow = c .before .before .before in side-moved _ _ _ (sym (side-answers flow) ∙ c .before .moved .given .1)
 
-fits : (c : tie.After-known-told) → c .before .moved .given .0 .0 .0 < 2 ^ 63
+fits : (c : tie.After-known-told) → c .before .moved .given .0 .0 .0 ≤ mostAbscissa + mostTrial
 fits c =
     let s = c .before .before .before .before .before .before in
     rw (sym (moved c .1)) (omega (arith, s .pre .1 .0))

@@ -13,6 +13,10 @@ use Rattle.response.proofs.Branches.{within-radius-elastic, past-radius
 use Rattle.response.proofs.kinematic.Statement.{statement}
 use Rattle.response.proofs.kinematic.Tie as tie
 
+-- where the function starts
+abbrev start : tie.After-negative → tie.Start
+start c = c .before .before .before .before .before .before .before .before
+
 -- The distance of the trial from the centre.
 size-is : (c : tie.After-magnitude) → let a = c .before .before .before .args in c .magnitude .result .0 ≡ natAbs (a .trial .0 -ℤ a .centre .0)
 size-is c = rw (c .magnitude .ensures, c .before .minus .ensures .0)
@@ -41,7 +45,7 @@ minus-requires-2 c κs = omega (arith, passed (c .before .before .before))
 
 share-requires : tie.Need-share-requires
 share-requires c κs =
-    let s = c .before .before .before .before .before .before .before .before .before in
+    let s = start (c .before) in
     let below = s .pre .0 .0 .tangents-below 0 (s .pre .0 .0 .count-least) in
     (omega (arith, below), omega (arith, below), omega (arith, s .pre .0 .1))
 
@@ -58,21 +62,22 @@ of-requires c κs = omega (arith, shift-most c)
 plus-requires : tie.Need-plus-requires
 plus-requires c κs =
     let share = c .before in
-    let s = share .before .before .before .before .before .before .before .before .before .before in
+    let s = start (share .before .before) in
     omega (arith, c .of .ensures .1, shift-most share, s .pre .1)
 
 plus-requires-2 : tie.Need-plus-requires-2
 plus-requires-2 c κs =
     let of = c .before .before in
-    let s = of .before .before .before .before .before .before .before .before .before .before .before in
+    let s = start (of .before .before .before) in
     let radius = s .pre .0 .0 .yield-most in
     omega (arith, c .of2 .ensures .1, c .before .plus .ensures .1, of .of .ensures .1, shift-most (of .before), s .pre .1)
 
-negative-is : (c : tie.After-negative) → let a = c .before .before .before .before .before .before .before .before .args in
+negative-is : (c : tie.After-negative) → let size = c .before .before .before .before .before in
+    let a = size .before .before .before .args in
     c .negative .result ≡ isNeg (a .trial .0 -ℤ a .centre .0)
 negative-is c =
-    let minus = c .before .before .before .before .before .before in
-    c .negative .ensures ∙ ap (λ (g : Grain). isNeg (g .0)) (minus .minus .ensures .0)
+    let size = c .before .before .before .before .before in
+    c .negative .ensures ∙ ap (λ (g : Grain). isNeg (g .0)) (size .before .minus .ensures .0)
 
 returns-2 : tie.Need-returns-2
 returns-2 c =

@@ -1,25 +1,24 @@
 use mathlib.Core.Path.{sym, _∙_}
 use mathlib.Core.Bool.{and-false}
 use borrow.Author.Needs.{needs}
-use lib.IntN.{pos, negsuc}
-use Rattle.bits.proofs.RangeLaws.{unsigned-out, unsigned-in, signed-out, signed-in}
+use Rattle.bits.proofs.RangeLaws.{unsigned-if-out, unsigned-if-in, signed-if-out, signed-if-in}
 use Rattle.bits.proofs.SignLaws.{held-as}
 use Rattle.sheet.specs.Sheets.{constantsRight}
-use Rattle.sheet.specs.Parts.{constantsIn}
+use Rattle.sheet.specs.ReaderAnswers.{constantsIn}
 use Rattle.sheet.proofs.read_constants.Statement.{statement}
 use Rattle.sheet.proofs.read_constants.Tie as tie
 
 returns : tie.Need-returns
 unfolding constantsIn constantsRight
-returns c = simp (unsigned-out _ 8 20 1 400000 (sym (c .before .before .read-unsigned .ensures) ∙ c .enum-told .given .1))
+returns c = simp (unsigned-if-out _ _ (sym (c .before .before .read-unsigned .ensures) ∙ c .enum-told .given .1))
 
 returns-2 : tie.Need-returns-2
 unfolding constantsIn constantsRight
-returns-2 c = simp (unsigned-out _ 28 14 0 10000 (sym (c .before .before .read-unsigned2 .ensures) ∙ c .enum-told2 .given .1), and-false)
+returns-2 c = simp (unsigned-if-out _ _ (sym (c .before .before .read-unsigned2 .ensures) ∙ c .enum-told2 .given .1), and-false)
 
 returns-3 : tie.Need-returns-3
 unfolding constantsIn constantsRight
-returns-3 c = simp (signed-out _ 42 16 (negsuc 1999) (pos 20000) (sym (c .before .before .read-signed .ensures) ∙ c .enum-told3 .given .1), and-false)
+returns-3 c = simp (signed-if-out _ _ (sym (c .before .before .read-signed .ensures) ∙ c .enum-told3 .given .1), and-false)
 
 returns-4 : tie.Need-returns-4
 unfolding constantsIn constantsRight
@@ -27,9 +26,9 @@ returns-4 c =
     let t = c .before .before .before in
     let a = t .before .before .before .before in
     let e = a .before .before .before .before in
-    let modulus = unsigned-in _ 8 20 1 400000 (sym (e .read-unsigned .ensures) ∙ a .before .before .modulus .given .1) in
-    let expansion = unsigned-in _ 28 14 0 10000 (sym (a .read-unsigned2 .ensures) ∙ t .before .before .expansion .given .1) in
-    let reference = signed-in _ 42 16 (negsuc 1999) (pos 20000) (sym (t .read-signed .ensures) ∙ c .before .reference .given .1) in
+    let modulus = unsigned-if-in _ _ (sym (e .read-unsigned .ensures) ∙ a .before .before .modulus .given .1) in
+    let expansion = unsigned-if-in _ _ (sym (a .read-unsigned2 .ensures) ∙ t .before .before .expansion .given .1) in
+    let reference = signed-if-in _ _ (sym (t .read-signed .ensures) ∙ c .before .reference .given .1) in
     simp (modulus .0, expansion .0, reference .0, modulus .1, expansion .1, held-as (c .known-told3 .given .0 .1) (reference .1))
 
 pub read-constants-spec : {M : Type 1} → statement M

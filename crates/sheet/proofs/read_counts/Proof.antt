@@ -1,54 +1,60 @@
-use mathlib.Core.Path.{_≡_, sym, ap, ap₂, _∙_}
+use Prim.Native.Nat.{ℕ}
+use mathlib.Core.Path.{_≡_, sym, ap, _∙_}
 use mathlib.Core.Bool.{and-false}
+use mathlib.Core.List.{List}
 use borrow.Author.Needs.{needs}
 use native.Mathlib.Omega.{arith}
 use Rattle.law.specs.Laws.{lawOf}
-use Rattle.bits.specs.Field.{unsignedOf}
-use Rattle.bits.proofs.FieldLaws.{field-below}
-use Rattle.bits.proofs.RangeLaws.{unsigned-out, unsigned-in, within-itself}
-use Rattle.sheet.specs.Sheets.{lawIn, mostTension, compressionOf, countsRight}
-use Rattle.sheet.specs.Parts.{countsIn}
+use Rattle.bits.specs.Field.{within, unsignedIf}
+use Rattle.bits.proofs.FieldLaws.{field-at-below}
+use Rattle.bits.proofs.RangeLaws.{unsigned-if-out, unsigned-if-in, within-itself}
+use Rattle.sheet.specs.SheetLayout.{headerLayout}
+use Rattle.sheet.specs.Sheets.{lawIn, tensionCount, compressionCount, mostTension, compressionOf, sheetCountsRight}
+use Rattle.sheet.specs.ReaderAnswers.{countsIn}
 use Rattle.sheet.proofs.read_counts.Statement.{statement}
 use Rattle.sheet.proofs.read_counts.Tie as tie
 
-of-requires : tie.Need-of-requires
-of-requires c κs = omega (arith, c .read .ensures, field-below (c .before .before .args .s .now) 0 2)
+-- Where the tension count is read, and the sheet's bytes.
+abbrev first : tie.After-read-unsigned2 → tie.After-read-unsigned
+first c = c .before .before .before .before .before
 
-law-is : (c : tie.After-of) → c .of .result ≡ lawIn (c .before .before .before .args .s .now)
-law-is c = c .of .ensures ∙ ap lawOf (c .before .read .ensures)
+abbrev bytes : tie.After-read-unsigned → List ℕ
+bytes c = c .before .before .before .before .before .args .s .now
+
+of-requires : tie.Need-of-requires
+of-requires c κs = omega (arith, c .read .ensures, field-at-below headerLayout (c .before .before .args .s .now) 0)
+
+law-is : (c : tie.After-read-unsigned) → c .before .before .of .result ≡ lawIn (bytes c)
+law-is c = c .before .before .of .ensures ∙ ap lawOf (c .before .before .before .read .ensures)
 
 -- the answers of the two readers, with the bounds that the law gives
-tension-read : (c : tie.After-read-unsigned)
-    → unsignedOf (c .before .before .before .before .before .args .s .now) 2 3 1 (mostTension (lawIn (c .before .before .before .before .before .args .s .now))) ≡ c .read-unsigned .result
+tension-read : (c : tie.After-read-unsigned) → let s = bytes c in
+    unsignedIf (within 1 (mostTension (lawIn s)) (tensionCount s)) (tensionCount s) ≡ c .read-unsigned .result
 tension-read c =
-    ap (unsignedOf (c .before .before .before .before .before .args .s .now) 2 3 1) (sym (c .before .most-tension .ensures ∙ ap mostTension (law-is (c .before .before)))) ∙ sym (c .read-unsigned .ensures)
+    let x = tensionCount (bytes c) in
+    ap (λ (n : ℕ). unsignedIf (within 1 n x) x) (sym (c .before .most-tension .ensures ∙ ap mostTension (law-is c))) ∙ sym (c .read-unsigned .ensures)
 
-compression-read : (c : tie.After-read-unsigned2) → let first = c .before .before .before .before .before in
-    let s = first .before .before .before .before .before .args .s .now in
-    unsignedOf s 5 3 (compressionOf (lawIn s)) (compressionOf (lawIn s)) ≡ c .read-unsigned2 .result
+compression-read : (c : tie.After-read-unsigned2) → let s = bytes (first c) in
+    unsignedIf (within (compressionOf (lawIn s)) (compressionOf (lawIn s)) (compressionCount s)) (compressionCount s) ≡ c .read-unsigned2 .result
 compression-read c =
-    let first = c .before .before .before .before .before in
-    let s = first .before .before .before .before .before .args .s .now in
-    let sides = sym (c .before .compression-of .ensures ∙ ap compressionOf (law-is (first .before .before))) in
-    ap₂ (unsignedOf s 5 3) sides sides ∙ sym (c .read-unsigned2 .ensures)
+    let x = compressionCount (bytes (first c)) in
+    ap (λ (n : ℕ). unsignedIf (within n n x) x) (sym (c .before .compression-of .ensures ∙ ap compressionOf (law-is (first c)))) ∙ sym (c .read-unsigned2 .ensures)
 
 returns : tie.Need-returns
-unfolding countsIn countsRight
-returns c =
-    simp (unsigned-out _ 2 3 1 _ (tension-read (c .before .before) ∙ c .enum-told .given .1))
+unfolding countsIn sheetCountsRight
+returns c = simp (unsigned-if-out _ _ (tension-read (c .before .before) ∙ c .enum-told .given .1))
 
 returns-2 : tie.Need-returns-2
-unfolding countsIn countsRight
-returns-2 c = simp (← within-itself, unsigned-out _ 5 3 _ _ (compression-read (c .before .before) ∙ c .enum-told2 .given .1), and-false)
+unfolding countsIn sheetCountsRight
+returns-2 c = simp (← within-itself, unsigned-if-out _ _ (compression-read (c .before .before) ∙ c .enum-told2 .given .1), and-false)
 
 returns-3 : tie.Need-returns-3
-unfolding countsIn countsRight
+unfolding countsIn sheetCountsRight
 returns-3 c =
     let second = c .before .before .before in
-    let first = second .before .before .before .before .before in
-    let tension = unsigned-in _ 2 3 1 _ (tension-read first ∙ second .before .before .before .tension .given .1) in
-    let compression = unsigned-in _ 5 3 _ _ (compression-read second ∙ c .before .compression .given .1) in
-    simp (← within-itself, tension .0, compression .0, tension .1, compression .1, law-is (first .before .before))
+    let tension = unsigned-if-in _ _ (tension-read (first second) ∙ second .before .before .before .tension .given .1) in
+    let compression = unsigned-if-in _ _ (compression-read second ∙ c .before .compression .given .1) in
+    simp (← within-itself, tension .0, compression .0, tension .1, compression .1, law-is (first second))
 
 pub read-counts-spec : {M : Type 1} → statement M
 read-counts-spec =

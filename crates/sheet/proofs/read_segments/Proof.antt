@@ -1,15 +1,15 @@
 -- The loop keeps the segments passed in their places, and that their lengths were right.
 use Prim.Native.Nat.{ℕ, _+_, _-_, _*_, _≤_}
 use mathlib.Core.Path.{_≡_, refl, sym, ap, _∙_}
-use mathlib.Core.Bool.{true, false}
+use mathlib.Core.Bool.{Bool, true}
 use borrow.Author.Needs.{needs}
 use native.Mathlib.Omega.{arith}
 use lib.ListN.{length}
 use Rattle.ranges.specs.Ranges.{mostLength}
-use Rattle.bits.specs.Field.{unsignedOf}
-use Rattle.bits.proofs.RangeLaws.{unsigned-out, unsigned-in}
-use Rattle.sheet.specs.Sheets.{lengthRight, lengthsRight, allBelow, segmentsIn, sevenPlaces}
-use Rattle.sheet.specs.Parts.{leastLength, segmentsRead}
+use Rattle.bits.specs.Field.{within, unsignedIf}
+use Rattle.bits.proofs.RangeLaws.{unsigned-if-out, unsigned-if-in}
+use Rattle.sheet.specs.Sheets.{segmentLengthIn, lengthRight, lengthsRight, allBelow, segmentsIn, sevenPlaces}
+use Rattle.sheet.specs.ReaderAnswers.{leastLength, segmentsRead}
 use Rattle.sheet.proofs.SheetLaws.{least-length-small, length-bounds, all-below-more, all-below-stops, places-more}
 use Rattle.sheet.proofs.read_segments.Statement.{statement}
 use Rattle.sheet.proofs.read_segments.Tie as tie
@@ -32,16 +32,18 @@ mul-most c =
     record { fits = omega (arith, c .least-length .ensures, least-length-small i count) }
 
 -- the answer on a segment's length, with the bounds that its place gives
-length-read : (c : tie.After-read-unsigned Inv-loop μ-loop)
+length-read : (c : tie.After-read-length Inv-loop μ-loop)
     → let at-loop = c .before .before .before in
     let a = at-loop .before .before .before .args in
     let i = at-loop .loop .i in
-    unsignedOf (a .s .now) (112 + 48 * (a .first + i)) 28 (leastLength i (a .count)) (leastLength i (a .count) * mostLength) ≡ c .read-unsigned .result
+    unsignedIf (lengthRight (a .s .now) (a .first) (a .count) i) (segmentLengthIn (a .s .now) (a .first + i)) ≡ c .read-length .result
 length-read c =
     let at-loop = c .before .before .before in
     let a = at-loop .before .before .before .args in
     let i = at-loop .loop .i in
-    ap (λ (n : ℕ). unsignedOf (a .s .now) (112 + 48 * (a .first + i)) 28 n (n * mostLength)) (sym (c .before .least-length .ensures)) ∙ sym (c .read-unsigned .ensures)
+    let x = segmentLengthIn (a .s .now) (a .first + i) in
+    let bounds = ap (λ (n : ℕ). within n (n * mostLength) x) (c .before .least-length .ensures) ∙ length-bounds (a .s .now) (a .first) (a .count) i in
+    ap (λ (right : Bool). unsignedIf right x) (sym bounds) ∙ sym (c .read-length .ensures)
 
 returns : tie.Need-returns Inv-loop μ-loop
 unfolding segmentsRead lengthsRight
@@ -50,8 +52,7 @@ returns c =
     let at-loop = r .before .before .before in
     let a = at-loop .before .before .before .args in
     let i = at-loop .loop .i in
-    let wrong : lengthRight (a .s .now) (a .first) (a .count) i ≡ false =
-    sym (length-bounds (a .s .now) (a .first) (a .count) i) ∙ unsigned-out _ _ 28 _ _ (length-read r ∙ c .before .enum-told .given .1) in
+    let wrong = unsigned-if-out _ _ (length-read r ∙ c .before .enum-told .given .1) in
     rw (all-below-stops (lengthRight (a .s .now) (a .first) (a .count)) i (a .count) (r .before .before .loop-test .taken) wrong, c .no-segments2 .ensures)
 
 loop-again : tie.Need-loop-again Inv-loop μ-loop
@@ -61,9 +62,8 @@ loop-again c =
     let at-loop = r .before .before .before in
     let a = at-loop .before .before .before .args in
     let i = at-loop .loop .i in
-    let length = unsigned-in _ _ 28 _ _ (length-read r ∙ told .before .length .given .1) in
-    let right : lengthRight (a .s .now) (a .first) (a .count) i ≡ true = sym (length-bounds (a .s .now) (a .first) (a .count) i) ∙ length .0 in
-    (omega arith, all-below-more (lengthRight (a .s .now) (a .first) (a .count)) i (at-loop .loop .inv .1) right, rw (at-loop .loop .inv .2, length .1, c .read .ensures) (places-more (a .s .now) (a .first) i (omega arith)))
+    let length = unsigned-if-in _ _ (length-read r ∙ told .before .length .given .1) in
+    (omega arith, all-below-more (lengthRight (a .s .now) (a .first) (a .count)) i (at-loop .loop .inv .1) (length .0), rw (at-loop .loop .inv .2, length .1, c .read-tangent .ensures) (places-more (a .s .now) (a .first) i (omega arith)))
 
 returns-2 : tie.Need-returns-2 Inv-loop μ-loop
 unfolding segmentsRead lengthsRight
@@ -82,11 +82,9 @@ read-segments-spec =
     μ-loop
     (λ c κs. search needs)
     loop-holds
-    (λ c. search needs)
-    (λ c. search needs)
-    (λ c. search needs)
     (λ c κs. search needs)
     mul-most
+    (λ c. search needs)
     (λ c κs. search needs)
     (λ c. search needs)
     (λ c. search needs)

@@ -39,12 +39,16 @@ ends c =
     let loop = c .before .before .before .before .before .loop in
     ltb-false (loop .past .0) (c .before .before .times .result .0) (sym (c .before .below .ensures) ∙ c .if1 .left)
 
+-- The loop's turn, seen from its test.
+abbrev turn : tie.After-below Inv-loop μ-loop → tie.At-loop Inv-loop μ-loop
+turn c = c .before .before .before .before
+
 plus-requires : tie.Need-plus-requires Inv-loop μ-loop
-plus-requires c κs = let inv = c .before .before .before .before .before .loop .inv in omega (arith, inv .word, inv .room)
+plus-requires c κs = let inv = turn (c .before) .loop .inv in omega (arith, inv .word, inv .room)
 
 reading-requires : tie.Need-reading-requires Inv-loop μ-loop
 reading-requires c κs =
-    let inv = c .before .before .before .before .before .before .loop .inv in
+    let inv = turn (c .before .before) .loop .inv in
     ((inv .readable .modulus-positive, inv .readable .tangents-fit _ (inv .index), inv .readable .modulus-fits), rw (c .plus .ensures) (omega (arith, inv .word, inv .room)))
 
 returns : tie.Need-returns Inv-loop μ-loop
@@ -59,13 +63,13 @@ minus-requires-2 c κs = ends c
 
 times-requires-2 : tie.Need-times-requires-2 Inv-loop μ-loop
 times-requires-2 c κs =
-    let inv = c .before .before .before .before .before .before .loop .inv in
+    let inv = turn (c .before .before) .loop .inv in
     omega (arith, span-fits inv, rise-at-most-span inv)
 
 plus-requires-2 : tie.Need-plus-requires-2 Inv-loop μ-loop
 plus-requires-2 c κs =
     let else = c .before .before in
-    let inv = else .before .before .before .before .before .loop .inv in
+    let inv = turn (else .before) .loop .inv in
     rw (c .times2 .ensures)
     (omega (arith, inv .word, inv .room, rise-at-most-span inv, rw (else .before .before .times .ensures) at (ends else)))
 

@@ -13,23 +13,31 @@ use Rattle.units.specs.declared.Grain.{Grain}
 use Rattle.units.specs.declared.Length.{Length}
 use Rattle.units.specs.declared.Nano.{Nano}
 use Rattle.pair.proofs.PairLaws.{pair-facts}
-use Rattle.response.specs.Response.{Answerable, outcomeOf}
-use Rattle.rod.specs.declared.step.Settled.{Settled}
-use Rattle.rod.specs.Steps.{strainAfter, trialOf, outcomeAfter, settledOf, strainLeaves, bothPassedBy, leavesRange, stepRefusals, advanceBy, advanceOf}
+use Rattle.response.specs.Response.{Outcome, Answerable, outcomeOf, responseMeaning}
+use Rattle.rod.specs.Steps.{strainAfter, trialOf, outcomeAfter, strainLeaves, bothPassedBy, leavesRange, stepRefusals, advanceBy, advanceOf}
 use Rattle.rod.specs.Variables.{firstRight, secondRight}
 use Rattle.rod.proofs.RangeFacts.{ranged}
 use Rattle.rod.proofs.StepLaws.{variables-right, same-law, stays}
 use Rattle.rod.proofs.Rod.step.Statement.{statement}
 use Rattle.rod.proofs.Rod.step.Tie as tie
 
+-- from each test to the function's start
+abbrev start : tie.After-at-most → tie.Start
+start c = c .before .before .before .before
+
+abbrev strain-test : tie.After-both-passed → tie.After-at-most
+strain-test c = c .before .before .before
+
+abbrev both-test : tie.After-respond → tie.After-both-passed
+both-test c = c .before .before .before .before .before
+
 plus-requires : tie.Need-plus-requires
 plus-requires c κs =
     omega (arith, ranged (c .args .self) (c .pre .0 .0 .in-range) .strain, pair-facts (c .args .pair) (c .pre .0 .1) .0)
 
-strain-is : (c : tie.After-at-most) → let a = c .before .before .before .before .args in
-    c .at-most .result ≡ around mostStrain (strainAfter (a .self) (a .pair))
+strain-is : (c : tie.After-at-most) → let a = start c .args in c .at-most .result ≡ around mostStrain (strainAfter (a .self) (a .pair))
 strain-is c =
-    let a = c .before .before .before .before .args in
+    let a = start c .args in
     let z = strainAfter (a .self) (a .pair) in
     c .at-most .ensures ∙ ap₂ (λ (m n : Length). leb (m .0) (n .0)) (c .before .before .magnitude .ensures) (c .before .magnitude2 .ensures)
     ∙ ap (λ (n : Nano). leb (natAbs (n .0)) mostStrain) (c .before .before .before .plus .ensures .0) ∙ sym (around-is mostStrain z)
@@ -39,15 +47,14 @@ unfolding firstOf stepRefusals strainLeaves
 returns c = rw (sym (strain-is (c .before)) ∙ not-true _ (c .if1 .taken))
 
 -- past the test of the strain
-strain-stays : (c : tie.Else1) → let a = c .before .before .before .before .before .args in
-    strainLeaves (a .self) (a .pair) ≡ false
+strain-stays : (c : tie.Else1) → let a = start (c .before) .args in strainLeaves (a .self) (a .pair) ≡ false
 unfolding strainLeaves
 strain-stays c = ap not (sym (strain-is (c .before)) ∙ not-false _ (c .if1 .left))
 
-both-is : (c : tie.After-both-passed) → let a = c .before .before .before .before .before .before .before .args in
+both-is : (c : tie.After-both-passed) → let a = start (strain-test c) .args in
     c .both-passed .result ≡ bothPassedBy (a .sheet .law) (a .sheet) (a .self) (trialOf (a .sheet) (a .self) (a .pair))
 both-is c =
-    let a = c .before .before .before .before .before .before .before .args in
+    let a = start (strain-test c) .args in
     c .both-passed .ensures ∙ ap (λ (g : Grain). bothPassedBy (a .sheet .law) (a .sheet) (a .self) (g .0)) (c .before .trial .ensures .0)
 
 returns-2 : tie.Need-returns-2
@@ -56,68 +63,70 @@ returns-2 c = rw (strain-stays (c .before .before .before), sym (both-is (c .bef
 
 respond-requires : tie.Need-respond-requires
 respond-requires c κs =
-    let trial = c .before .before .before .before in
-    let start = trial .before .before .before .before .before .before in
-    let rod = start .args .self in
-    let sheet = start .args .sheet in
-    let facts = ranged rod (start .pre .0 .0 .in-range) in
-    let law = same-law sheet rod (start .pre .0 .0 .belongs) in
+    let both = c .before .before .before .before in
+    let trial = both .before in
+    let s = start (strain-test both) in
+    let rod = s .args .self in
+    let sheet = s .args .sheet in
+    let facts = ranged rod (s .pre .0 .0 .in-range) in
+    let law = same-law sheet rod (s .pre .0 .0 .belongs) in
     let answerable : Answerable sheet (rod .first .0) (rod .second .0) (trial .trial .result .0) =
     record {
-      sound = start .pre .0 .0 .sound;
+      sound = s .pre .0 .0 .sound;
       variables = variables-right (sheet .law) (rod .first .0) (rod .second .0) (ap (λ (l : Law). firstRight l (rod .first .0)) (sym law) ∙ facts .first) (ap (λ (l : Law). secondRight l (rod .second .0)) (sym law) ∙ facts .second);
       trial-most = trial .trial .ensures .1;
     } in
-    (answerable, start .pre .1)
+    (answerable, (s .pre .1, c .negative .ensures))
 
--- what the law left is the outcome
-settled-is : (c : tie.After-settle) → let a = c .before .before .before .before .before .before .before .before .before .before .before .before .args in
-    c .settle .result ≡ settledOf (outcomeAfter (a .sheet) (a .self) (a .pair))
-settled-is c =
-    let respond = c .before in
-    let trial = respond .before .before .before .before .before in
-    let a = trial .before .before .before .before .before .before .args in
-    c .settle .ensures ∙ ap settledOf (respond .respond .ensures ∙ ap (λ (g : Grain). outcomeOf (a .sheet) (a .self .first .0) (a .self .second .0) (g .0)) (trial .trial .ensures .0))
+-- the law's answer is the outcome
+outcome-is : (c : tie.After-respond) → let a = start (strain-test (both-test c)) .args in
+    responseMeaning (c .respond .result) ≡ outcomeAfter (a .sheet) (a .self) (a .pair)
+outcome-is c =
+    let trial = both-test c .before in
+    let a = start (strain-test (both-test c)) .args in
+    c .respond .ensures ∙ ap (λ (g : Grain). outcomeOf (a .sheet) (a .self .first .0) (a .self .second .0) (g .0)) (trial .trial .ensures .0)
 
 leaves-range-requires : tie.Need-leaves-range-requires
-leaves-range-requires c κs =
-    let start = c .before .before .before .before .before .before .before .before .before .before .before .before in
-    omega (arith, start .pre .0 .0 .counted)
+leaves-range-requires c κs = omega (arith, start (strain-test (both-test c)) .pre .0 .0 .counted)
 
 -- the range test, over the outcome
-leaves-is : (c : tie.After-leaves-range) → let a = c .before .before .before .before .before .before .before .before .before .before .before .before .before .args in
+leaves-is : (c : tie.After-leaves-range) → let a = start (strain-test (both-test (c .before))) .args in
     let o = outcomeAfter (a .sheet) (a .self) (a .pair) in
     c .leaves-range .result ≡ leavesRange (a .self) (o .stress) (o .first) (o .second)
 leaves-is c =
-    let a = c .before .before .before .before .before .before .before .before .before .before .before .before .before .args in
-    c .leaves-range .ensures ∙ ap (λ (s : Settled). leavesRange (a .self) (s .stress .0) (s .first .0) (s .second .0)) (settled-is (c .before))
+    let a = start (strain-test (both-test (c .before))) .args in
+    c .leaves-range .ensures ∙ ap (λ (o : Outcome). leavesRange (a .self) (o .stress) (o .first) (o .second)) (outcome-is (c .before))
 
--- past the test of both limits
-not-both : (c : tie.Else2) → let a = c .before .before .before .before .before .before .before .before .args in
+-- past the tests of the strain and of both limits
+strain-past : (c : tie.After-respond) → let a = start (strain-test (both-test c)) .args in strainLeaves (a .self) (a .pair) ≡ false
+strain-past c = strain-stays (both-test c .before .before)
+
+not-both : (c : tie.After-respond) → let a = start (strain-test (both-test c)) .args in
     bothPassedBy (a .sheet .law) (a .sheet) (a .self) (trialOf (a .sheet) (a .self) (a .pair)) ≡ false
-not-both c = sym (both-is (c .before)) ∙ c .if2 .left
+not-both c = sym (both-is (both-test c)) ∙ c .before .before .before .before .if2 .left
 
 returns-3 : tie.Need-returns-3
 unfolding firstOf stepRefusals
 returns-3 c =
-    let both = c .before .before .before .before .before .before in
-    rw (strain-stays (both .before .before .before), not-both both, sym (leaves-is (c .before)) ∙ c .if3 .taken)
+    let respond = c .before .before in
+    rw (strain-past respond, not-both respond, sym (leaves-is (c .before)) ∙ c .if3 .taken)
 
 advance-requires : tie.Need-advance-requires
 advance-requires c κs =
-    let start = c .before .before .before .before .before .before .before .before .before .before .before .before .before .before in
-    let s = c .before .before .settle .result in
-    let kept = stays (start .args .self) (s .stress .0) (s .first .0) (s .second .0) (sym (c .before .leaves-range .ensures) ∙ c .if3 .left) in
-    (start .pre .0, (kept .stress, kept .pairs))
+    let respond = c .before .before in
+    let s = start (strain-test (both-test respond)) in
+    let o = respond .respond .result in
+    let kept = stays (s .args .self) (o .stress .0) (o .first .0) (o .second .0) (sym (c .before .leaves-range .ensures) ∙ c .if3 .left) in
+    (s .pre .0, (kept .stress, kept .pairs))
 
 returns-4 : tie.Need-returns-4
 unfolding firstOf stepRefusals advanceOf
 returns-4 c =
     let last = c .before in
-    let both = last .before .before .before .before .before .before in
-    let a = both .before .before .before .before .before .before .before .before .args in
-    rw (strain-stays (both .before .before .before), not-both both, sym (leaves-is (last .before)) ∙ last .if3 .left)
-    (ap passes (c .advance .ensures ∙ ap (advanceBy (a .sheet) (a .self) (a .pair)) (settled-is (last .before .before))))
+    let respond = last .before .before in
+    let a = start (strain-test (both-test respond)) .args in
+    rw (strain-past respond, not-both respond, sym (leaves-is (last .before)) ∙ last .if3 .left)
+    (ap passes (c .advance .ensures ∙ ap (advanceBy (a .sheet) (a .self) (a .pair)) (outcome-is respond)))
 
 pub step-spec : {M : Type 1} → statement M
 step-spec =
@@ -131,8 +140,8 @@ step-spec =
     (λ c κs. search needs)
     (λ c κs. search needs)
     returns-2
-    respond-requires
     (λ c κs. search needs)
+    respond-requires
     leaves-range-requires
     returns-3
     advance-requires

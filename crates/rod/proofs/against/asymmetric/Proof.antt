@@ -5,27 +5,31 @@ use borrow.Author.Tests.{not-true, not-false}
 use lib.IntN.{natAbs, negℤ}
 use Rattle.units.specs.declared.Magnitude.{Magnitude}
 use Rattle.response.specs.declared.Limits.{Limits}
-use Rattle.rod.specs.Limits.{withinLimit}
+use Rattle.rod.specs.WithinLimit.{withinLimit}
 use Rattle.rod.specs.Against.{asymmetricBelongs}
-use Rattle.rod.proofs.LimitLaws.{own-sign, other-sign, limit-test-is}
+use Rattle.rod.proofs.WithinLimitLaws.{own-sign, other-sign, limit-test-is}
 use Rattle.rod.proofs.against.asymmetric.Statement.{statement}
 use Rattle.rod.proofs.against.asymmetric.Tie as tie
 
-in-tension : (c : tie.After-within-limit) → let a = c .before .before .before .before .before .before .before .before .before .before .before .before .before .args in
+-- where the function starts
+abbrev start : tie.After-magnitude → tie.Start
+start c = c .before .before .before .before .before .before .before .before .before .before .before
+
+in-tension : (c : tie.After-within-limit) → let a = start (c .before .before) .args in
     c .within-limit .result ≡ withinLimit (a .sheet .modulus .0) (a .sheet .tension) (natAbs (a .rod .first .0)) (a .rod .stress .0)
 in-tension c =
     let size = c .before .before in
-    let s = size .before .before .before .before .before .before .before .before .before .before .before in
+    let s = start size in
     let a = s .args in
     limit-test-is (a .sheet .modulus .0) (a .sheet .tension) (natAbs (a .rod .first .0)) (natAbs (a .rod .stress .0)) (s .pre .0) (c .within-limit .ensures)
     (ap (λ (l : Limits). l .first .0) (s .pre .1)) (size .before .negative .ensures) (ap (λ (m : Magnitude). m .0) (size .magnitude .ensures)) (own-sign (a .rod .stress .0))
 
 in-compression : (c : tie.After-within-limit2) → let size = c .before .before .before .before .before in
-    let a = size .before .before .before .before .before .before .before .before .before .before .before .args in
+    let a = start size .args in
     c .within-limit2 .result ≡ withinLimit (a .sheet .modulus .0) (a .sheet .compression) (natAbs (a .rod .second .0)) (negℤ (a .rod .stress .0))
 in-compression c =
     let size = c .before .before .before .before .before in
-    let s = size .before .before .before .before .before .before .before .before .before .before .before in
+    let s = start size in
     let a = s .args in
     limit-test-is (a .sheet .modulus .0) (a .sheet .compression) (natAbs (a .rod .second .0)) (natAbs (a .rod .stress .0)) (s .pre .0) (c .within-limit2 .ensures)
     (ap (λ (l : Limits). l .second .0) (s .pre .1)) (ap not (size .before .negative .ensures)) (ap (λ (m : Magnitude). m .0) (size .magnitude .ensures)) (other-sign (a .rod .stress .0))

@@ -4,16 +4,20 @@ use borrow.Author.Needs.{needs}
 use borrow.Author.Tests.{not-true, not-false}
 use lib.IntN.{pos, natAbs}
 use Rattle.units.specs.declared.Magnitude.{Magnitude}
-use Rattle.rod.specs.Limits.{withinLimit}
+use Rattle.rod.specs.WithinLimit.{withinLimit}
 use Rattle.rod.specs.Against.{isotropicBelongs}
-use Rattle.rod.proofs.LimitLaws.{limit-test-is}
+use Rattle.rod.proofs.WithinLimitLaws.{limit-test-is}
 use Rattle.rod.proofs.against.isotropic.Statement.{statement}
 use Rattle.rod.proofs.against.isotropic.Tie as tie
 
-inside : (c : tie.After-within-limit) → let a = c .before .before .before .before .before .before .before .args in
+-- where the function starts
+abbrev start : tie.After-within-limit → tie.Start
+start c = c .before .before .before .before .before .before .before
+
+inside : (c : tie.After-within-limit) → let a = start c .args in
     c .within-limit .result ≡ withinLimit (a .sheet .modulus .0) (a .sheet .tension) (natAbs (a .rod .first .0)) (pos (natAbs (a .rod .stress .0)))
 inside c =
-    let s = c .before .before .before .before .before .before .before in
+    let s = start c in
     let a = s .args in
     limit-test-is (a .sheet .modulus .0) (a .sheet .tension) {t = false} {away = false} (natAbs (a .rod .first .0)) (natAbs (a .rod .stress .0)) (s .pre .0) (c .within-limit .ensures)
     (ap (λ (m : Magnitude). m .0) (s .pre .1)) refl (ap (λ (m : Magnitude). m .0) (c .before .magnitude .ensures)) refl

@@ -11,6 +11,10 @@ use Rattle.rod.proofs.RangeFacts.{ranged, centre-magnitude}
 use Rattle.rod.proofs.against.kinematic.Statement.{statement}
 use Rattle.rod.proofs.against.kinematic.Tie as tie
 
+-- where the function starts
+abbrev start : tie.After-at-most → tie.Start
+start c = c .before .before .before .before .before .before
+
 minus-requires : tie.Need-minus-requires
 minus-requires c κs =
     let start = c .before .before .before in
@@ -18,10 +22,10 @@ minus-requires c κs =
     let facts = ranged rod (start .pre .0) in
     omega (arith, facts .stress, centre-magnitude (rod .law) (rod .first .0) (facts .first) (start .pre .1))
 
-within-radius : (c : tie.After-at-most) → let a = c .before .before .before .before .before .before .args in
+within-radius : (c : tie.After-at-most) → let a = start c .args in
     c .at-most .result ≡ leb (natAbs (a .rod .stress .0 -ℤ a .rod .first .0)) (a .sheet .tension .«yield_stress» .0)
 within-radius c =
-    let a = c .before .before .before .before .before .before .args in
+    let a = start c .args in
     let radius = a .sheet .tension .«yield_stress» .0 in
     c .at-most .ensures ∙ ap (λ (m : Magnitude). leb (m .0) radius) (c .before .magnitude .ensures)
     ∙ ap (λ (d : Grain). leb (natAbs (d .0)) radius) (c .before .before .minus .ensures .0)

@@ -1,8 +1,7 @@
 use mathlib.Core.Path.{_≡_, refl, sym, ap, _∙_}
-use mathlib.Core.Bool.{Bool, true, false}
+use mathlib.Core.Bool.{Bool, true, false, cond}
 use borrow.Author.Needs.{needs}
 use borrow.Author.Tests.{not-true, not-false}
-use Rattle.refusals.specs.Table.{pick}
 use Rattle.law.specs.declared.Law.{Law}
 use Rattle.units.specs.declared.Modulus.{Modulus}
 use Rattle.units.specs.Kinds.{modulus}
@@ -24,7 +23,7 @@ by-law c e told =
     let a = c .before .before .before .args in
     let yielded : a .rod .yielded ≡ true = not-false _ (c .if1 .left) in
     e ∙ ap (λ (l : Law). modulus (segmentTangent l (a .sheet) (a .rod))) (sym told)
-    ∙ ap (λ (b : Bool). modulus (pick b (segmentTangent (a .sheet .law) (a .sheet) (a .rod)) (a .sheet .modulus .0))) (sym yielded)
+    ∙ ap (λ (b : Bool). modulus (cond b (segmentTangent (a .sheet .law) (a .sheet) (a .rod)) (a .sheet .modulus .0))) (sym yielded)
 
 returns-2 : tie.Need-returns-2
 returns-2 c = by-law (c .before .before .before) (c .on-curve .ensures) (c .before .enum-told .given .1)

@@ -10,10 +10,10 @@ use Rattle.sheet.specs.declared.Sheet.{Sheet}
 use Rattle.response.specs.declared.Limits.{Limits}
 use Rattle.response.specs.Limits.{limitsUnder}
 use Rattle.rod.specs.declared.Rod.{Rod}
-use Rattle.rod.specs.Limits.{withinLimit}
-use Rattle.rod.specs.Variables.{hasSecond}
+use Rattle.rod.specs.WithinLimit.{withinLimit}
+use Rattle.law.specs.Laws.{hasSecond}
 use Rattle.rod.specs.Steps.{bothPassedBy}
-use Rattle.rod.proofs.LimitLaws.{own-sign, other-sign, limit-test-is}
+use Rattle.rod.proofs.WithinLimitLaws.{own-sign, other-sign, limit-test-is}
 use Rattle.rod.proofs.step.both_passed.Statement.{statement}
 use Rattle.rod.proofs.step.both_passed.Tie as tie
 

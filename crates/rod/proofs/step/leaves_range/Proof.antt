@@ -12,9 +12,13 @@ use Rattle.rod.specs.Steps.{leavesRange}
 use Rattle.rod.proofs.step.leaves_range.Statement.{statement}
 use Rattle.rod.proofs.step.leaves_range.Tie as tie
 
-stress-is : (c : tie.After-at-most) → c .at-most .result ≡ around mostStress (c .before .before .before .before .before .before .args .settled .stress .0)
+-- where the function starts
+abbrev start : tie.After-at-most → tie.Start
+start c = c .before .before .before .before .before .before
+
+stress-is : (c : tie.After-at-most) → c .at-most .result ≡ around mostStress (start c .args .response .stress .0)
 stress-is c =
-    let z = c .before .before .before .before .before .before .args .settled .stress .0 in
+    let z = start c .args .response .stress .0 in
     c .at-most .ensures ∙ ap₂ (λ (m n : Magnitude). leb (m .0) (n .0)) (c .before .before .magnitude .ensures) (c .before .magnitude2 .ensures) ∙ sym (around-is mostStress z)
 
 returns : tie.Need-returns
@@ -48,7 +52,7 @@ returns-4 c =
     let second = c .before in
     let first = second .before .before in
     let stress = first .before .before in
-    let rod = stress .before .before .before .before .before .before .before .args .rod in
+    let rod = start (stress .before) .args .rod in
     rw (sym (stress-is (stress .before)) ∙ not-false _ (stress .if1 .left), sym (first .before .first-right .ensures) ∙ not-false _ (first .if2 .left), sym (second .before .second-right .ensures) ∙ not-false _ (second .if3 .left))
     (passes-most (rod .pairs + 1))
 

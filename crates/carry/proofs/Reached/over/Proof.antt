@@ -1,0 +1,54 @@
+use Prim.Native.Nat.{ℕ}
+use mathlib.Core.Path.{_≡_, sym, ap, _∙_}
+use Rattle.refusals.specs.Table.{passes, refused, firstOf}
+use Rattle.rod.specs.Steps.{stepMeaning, stepRefusals, advanceOf}
+use Rattle.carry.specs.declared.Reached.{Reached}
+use Rattle.carry.specs.declared.Tried.the-variants.{Accepted, Refused}
+use Rattle.carry.specs.Reaching.{triedBy}
+use Rattle.carry.proofs.ReachedLaws.{limits-stand, reached-next}
+use borrow.Author.Needs.{needs}
+use Rattle.carry.proofs.Reached.over.Statement.{statement}
+use Rattle.carry.proofs.Reached.over.Tie as tie
+
+step-requires : tie.Need-step-requires
+step-requires c κs = let stands = c .before .before .pre .0 in ((stands .accepted, c .before .before .pre .1), limits-stand stands)
+
+returns : tie.Need-returns
+returns c =
+    let advance = c .before .before .before .before .before in
+    let step = advance .before .before in
+    let start = step .before .before .before in
+    let a = advance .advance .given .0 .0 in
+    let answer : firstOf (stepRefusals (start .args .sheet) (start .args .self .rod) (start .args .pair)) (advanceOf (start .args .sheet) (start .args .self .rod) (start .args .pair)) ≡ passes a =
+    sym (step .step .ensures) ∙ ap stepMeaning (advance .advance .given .1) in
+    ap (λ (to : Reached). Accepted (record { to = to; row = a .row })) (reached-next (start .args .pair) (start .pre .0) answer (c .after .ensures))
+    ∙ ap (triedBy (start .args .sheet)) (sym answer)
+
+-- a refusal of the step
+refused-as : (c : tie.After-step) {n : ℕ} → stepMeaning (c .step .result) ≡ refused n → let a = c .before .before .before .args in
+    Refused n ≡ triedBy (a .sheet) (firstOf (stepRefusals (a .sheet) (a .self .rod) (a .pair)) (advanceOf (a .sheet) (a .self .rod) (a .pair)))
+refused-as c e = ap (triedBy (c .before .before .before .args .sheet)) (sym e ∙ c .step .ensures)
+
+returns-2 : tie.Need-returns-2
+returns-2 c = refused-as (c .before .before) (ap stepMeaning (c .enum-told .given .1))
+
+returns-3 : tie.Need-returns-3
+returns-3 c = refused-as (c .before .before) (ap stepMeaning (c .enum-told2 .given .1))
+
+returns-4 : tie.Need-returns-4
+returns-4 c = refused-as (c .before .before) (ap stepMeaning (c .enum-told3 .given .1))
+
+pub over-spec : {M : Type 1} → statement M
+over-spec =
+    tie.close
+    (tie.spec
+    step-requires
+    (λ c. search needs)
+    (λ c κs. search needs)
+    (λ c. search needs)
+    (λ c. search needs)
+    (λ c. search needs)
+    returns
+    returns-2
+    returns-3
+    returns-4)

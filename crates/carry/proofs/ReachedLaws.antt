@@ -1,0 +1,54 @@
+-- The limits that go along with a rod (SPEC 7.12, 7.15): after each accepted pair they are again those at its variables.
+use Prim.Native.Nat.{ℕ}
+use mathlib.Core.Path.{_≡_, refl, sym, ap, subst, _∙_}
+use mathlib.Core.List.{List}
+use native.Mathlib.Omega.{arith}
+use Rattle.refusals.specs.Table.{Answer, passes, refused, firstOf}
+use Rattle.refusals.proofs.FirstLaws.{passes-given}
+use Rattle.sheet.specs.declared.Sheet.{Sheet}
+use Rattle.pair.specs.declared.Pair.{Pair}
+use Rattle.response.specs.declared.Limits.{Limits}
+use Rattle.response.specs.Limits.{limitsOf, limitsAfter}
+use Rattle.response.proofs.LimitLaws.{limits-kept}
+use Rattle.rod.specs.declared.step.Advance.{Advance}
+use Rattle.rod.specs.Steps.{trialOf, stepRefusals, advanceOf}
+use Rattle.carry.specs.declared.Reached.{Reached}
+use Rattle.carry.specs.declared.Carried.{Carried}
+use Rattle.carry.specs.declared.Tried.the-variants.{Accepted, Refused}
+use Rattle.carry.specs.Walk.{pairAnswer}
+use Rattle.carry.specs.Reaching.{reachedOf, triedBy, Stands}
+use Rattle.carry.proofs.PairAnswers.{next-passes}
+
+pub limits-stand : {h : Sheet} {x : Reached} → Stands h x → x .limits ≡ limitsOf h (x .rod .first .0) (x .rod .second .0)
+limits-stand s = ap (λ (y : Reached). y .limits) (s .reached)
+
+-- What kept-up limits make of the rod after an accepted pair.
+pub reached-next : {h : Sheet} {x : Reached} (p : Pair) {a : Advance} {l : Limits} → Stands h x
+    → firstOf (stepRefusals h (x .rod) p) (advanceOf h (x .rod) p) ≡ passes a → l ≡ limitsAfter (h .law) (a .row .yielded) (a .row .stress .0) (x .limits)
+    → record { rod = a .rod; limits = l } ≡ reachedOf h (a .rod)
+unfolding advanceOf
+reached-next {h} {x} p {a} stands e is =
+    let r = x .rod in
+    let before = limitsOf h (r .first .0) (r .second .0) in
+    let kept : limitsOf h (a .rod .first .0) (a .rod .second .0) ≡ limitsAfter (h .law) (a .row .yielded) (a .row .stress .0) before =
+    subst (λ (b : Advance). limitsOf h (b .rod .first .0) (b .rod .second .0) ≡ limitsAfter (h .law) (b .row .yielded) (b .row .stress .0) before)
+    (passes-given (stepRefusals h r p) (advanceOf h r p) e) (limits-kept h (stands .accepted .sound) (r .first .0) (r .second .0) (trialOf h r p)) in
+    ap (λ (m : Limits). record { rod = a .rod; limits = m })
+    (is ∙ ap (limitsAfter (h .law) (a .row .yielded) (a .row .stress .0)) (limits-stand stands) ∙ sym kept)
+
+-- The rod after an accepted pair stands again.
+pub stands-next : {h : Sheet} {x y : Reached} (pair : List ℕ) {a : Advance} → Stands h x → pairAnswer h (x .rod) pair ≡ passes a → y ≡ reachedOf h (a .rod) → Stands h y
+stands-next {h} pair {a} stands e is =
+    subst (Stands h) (sym is) (record { accepted = next-passes pair (stands .accepted) e .0 .accepted; reached = refl })
+
+-- What an answer says of the pair's table.
+pub tried-accepted : (h : Sheet) (x : Answer Advance) {c : Carried} → Accepted c ≡ triedBy h x
+    → (x ≡ passes (record { rod = c .to .rod; row = c .row })) × (c .to ≡ reachedOf h (c .to .rod))
+tried-accepted h (passes a) {c} e =
+    let same : c ≡ record { to = reachedOf h (a .rod); row = a .row } = cc in
+    (λ i. passes (record { rod = sym same i .to .rod; row = sym same i .row }), (λ i. same i .to) ∙ (λ i. reachedOf h (sym same i .to .rod)))
+tried-accepted h (refused n) {c} e = let z : _≡_ {A = ℕ} 0 1 = cc in absurd (omega arith)
+
+pub tried-refused : (h : Sheet) (x : Answer Advance) {n : ℕ} → Refused n ≡ triedBy h x → x ≡ refused n
+tried-refused h (passes a) {n} e = let z : _≡_ {A = ℕ} 0 1 = cc in absurd (omega arith)
+tried-refused h (refused m) {n} e = let same : n ≡ m = cc in ap refused (sym same)

@@ -1,0 +1,27 @@
+-- A rod with the yield limits that it has reached, and what trying a pair on it answers (SPEC 7.12, 7.15), cited by the contracts of this
+-- crate, judge and tie_rod; definitions only, nothing is assumed.
+use Prim.Native.Nat.{ℕ}
+use mathlib.Core.Path.{_≡_}
+use Rattle.refusals.specs.Table.{Answer, passes, refused}
+use Rattle.sheet.specs.declared.Sheet.{Sheet}
+use Rattle.response.specs.Limits.{limitsOf}
+use Rattle.rod.specs.declared.Rod.{Rod}
+use Rattle.rod.specs.declared.step.Advance.{Advance}
+use Rattle.rod.specs.Accepted.{Accepted}
+use Rattle.carry.specs.declared.Reached.{Reached}
+use Rattle.carry.specs.declared.Tried.{Tried}
+use Rattle.carry.specs.declared.Tried.the-variants as tried
+
+-- SPEC 7.12: a rod with the limits at its variables.
+abbrev pub reachedOf : Sheet → Rod → Reached
+reachedOf h r = record { rod = r; limits = limitsOf h (r .first .0) (r .second .0) }
+
+-- SPEC 7.15: rod and limits stand together: the rod passes 5 and 6 with a sheet that passes, and the limits are those at its variables.
+pub record Stands (h : Sheet) (x : Reached) : Type 0 where
+  pub accepted : Accepted h (x .rod)
+  pub reached : x ≡ reachedOf h (x .rod)
+
+-- SPEC 7.15, 8.8: the number, or the rod carried on with its row, for each case of the answer.
+abbrev pub triedBy : Sheet → Answer Advance → Tried
+triedBy h (passes a) = tried.Accepted (record { to = reachedOf h (a .rod); row = a .row })
+triedBy h (refused number) = tried.Refused number

@@ -1,0 +1,36 @@
+-- Where everything stands in a sheet's bytes (SPEC 3.7, 3.8), cited by Sheets, Bytes and log; definitions only, nothing is assumed.
+use Prim.Native.Nat.{ℕ, _+_, _*_}
+use mathlib.Core.List.{List, [], _∷_}
+
+-- SPEC 3.7: the widths of the header's fields: law, tension segments, compression segments, E, expansion, reference temperature, tension
+-- yield, compression yield, zero,
+abbrev pub headerLayout : List ℕ
+headerLayout = 2 ∷ 3 ∷ 3 ∷ 20 ∷ 14 ∷ 16 ∷ 24 ∷ 24 ∷ 6 ∷ []
+
+-- and the bytes that they take.
+abbrev pub headerLength : ℕ
+headerLength = 14
+
+-- SPEC 3.8: the widths of a segment's fields: length, tangent modulus,
+abbrev pub segmentLayout : List ℕ
+segmentLayout = 28 ∷ 20 ∷ []
+
+-- and the bytes that they take.
+abbrev pub segmentLength : ℕ
+segmentLength = 6
+
+-- SPEC 3.8: the bytes of a sheet with so many segments.
+abbrev pub sheetLength : (segments : ℕ) → ℕ
+sheetLength segments = headerLength + segmentLength * segments
+
+-- SPEC 3.8: the bit where segment i begins: behind the header and the segments before it.
+abbrev pub segmentAt : ℕ → ℕ
+segmentAt i = 8 * (headerLength + segmentLength * i)
+
+-- SPEC 3.7: no sheet has more segments, right or wrong, since each count has three bits,
+abbrev pub mostSegments : ℕ
+mostSegments = 7 + 7
+
+-- and none is longer.
+abbrev pub longestSheet : ℕ
+longestSheet = sheetLength mostSegments

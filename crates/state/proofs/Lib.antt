@@ -1,0 +1,4 @@
+pub mod ReadLaws
+pub mod StateLaws
+pub mod RoundTrip
+pub mod Passing
