@@ -1,5 +1,5 @@
 #!/bin/sh
-# The evidence beside the proofs: builds the archive, looks at what it exports
+# The evidence beside the proofs: holds the papers to the tree, builds the archive, looks at what it exports
 # and needs, runs the C programs and the log program on every sample log, and
 # holds the archive against document 01's rules over fractions. Few lines where
 # all is well; otherwise what failed, and another exit status than 0.
@@ -17,6 +17,9 @@ quiet() {
         exit 1
     fi
 }
+
+# What the papers count and list is what the tree has.
+quiet sh checks/papers
 
 sh checks/prove.sh staticlib tie_rod_c
 archive=target/staticlib/libtie_rod_c.a

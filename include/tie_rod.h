@@ -185,24 +185,22 @@ static inline size_t tie_rod_place(uint64_t answer)
 }
 
 /*
- * Whether `next` after tie_rod_run or tie_rod_pair is to be stored: the number is
- * 0 or 8 to 11. On any other the card stays as it is.
+ * Whether `next` after tie_rod_run or tie_rod_pair is to be stored: all pairs were
+ * accepted, or one of them was refused and so has a place (8 to 11). On any other
+ * answer the card stays as it is.
  */
 static inline int tie_rod_has_next(uint64_t answer)
 {
-    unsigned number = tie_rod_number(answer);
-    return number == TIE_ROD_ACCEPTED || (number >= TIE_ROD_PAIR_FIELD && number <= TIE_ROD_BOTH_LIMITS);
+    return tie_rod_number(answer) == TIE_ROD_ACCEPTED || tie_rod_place(answer) != 0;
 }
 
 /* The rows that tie_rod_run or tie_rod_pair has written: one for each accepted pair. */
 static inline size_t tie_rod_rows(uint64_t answer, size_t pairs_len)
 {
-    unsigned number = tie_rod_number(answer);
-    if (number == TIE_ROD_ACCEPTED)
+    size_t place = tie_rod_place(answer);
+    if (tie_rod_number(answer) == TIE_ROD_ACCEPTED)
         return pairs_len / TIE_ROD_PAIR_BYTES;
-    if (number >= TIE_ROD_PAIR_FIELD && number <= TIE_ROD_BOTH_LIMITS)
-        return tie_rod_place(answer) - 1;
-    return 0;
+    return place == 0 ? 0 : place - 1;
 }
 
 /* The tangent modulus in an answer of tie_rod_forecast, in MPa. */

@@ -12,7 +12,7 @@ use Rattle.law.specs.Laws.{lawOf}
 use Rattle.curve.specs.Curve.{rise, height, limitAt, limitF}
 use Rattle.curve.specs.Tangent.{pieces, tangentIn, tangentAt}
 use Rattle.curve.specs.Sides.{segmentsOf, curveOf}
-use Rattle.sheet.specs.Sheets.{allBelow, lengthWrong, sheetCountsRight, constantsRight, yieldsRight, headerRight, lengthsRight, tangentsRight, sheetFieldRefusals, sheetRefusals, segmentsIn, sevenPlaces, sheetOf}
+use Rattle.sheet.specs.Sheets.{allBelow, lengthWrong, sheetCountsRight, constantsRight, yieldsRight, headerRight, lengthsRight, tangentsRight, sheetFieldRefusals, sheetRefusals, segmentsIn, allPlaces, sheetOf}
 use Rattle.sheet.specs.Thermal.{thermalOf}
 use Rattle.sheet.specs.Bytes.{segmentsBytes, sheetBytes}
 use Rattle.pair.specs.Pairs.{inRange, pairOf, pairRefusals, pairBytes}
@@ -28,7 +28,7 @@ use Rattle.board.specs.Board.{Loop, board, softSteel, softPull, LoopRigh
 
 -- All nine rows.
 pub board-right : AllRight board
-unfolding board walk pairAnswer pairTable pairRefusals pairBytes inRange firstOf stepRefusals strainLeaves leavesRange advanceOf trialOf thermalOf unusedOf outcomeUnder isotropicMoved kinematicMoved asymmetricOutcome isotropicStored kinematicStored sideStored limitAt height rise tangentAt tangentIn pieces curveOf segmentsOf sevenPlaces withinLimit field twos bitsOf widths packed bytesOf lawOf allBelow lengthWrong sheetCountsRight constantsRight yieldsRight headerRight lengthsRight tangentsRight sheetFieldRefusals sheetRefusals segmentsIn sheetOf segmentsBytes sheetBytes
+unfolding board walk pairAnswer pairTable pairRefusals pairBytes inRange firstOf stepRefusals strainLeaves leavesRange advanceOf trialOf thermalOf unusedOf outcomeUnder isotropicMoved kinematicMoved asymmetricOutcome isotropicStored kinematicStored sideStored limitAt height rise tangentAt tangentIn pieces curveOf segmentsOf allPlaces withinLimit field twos bitsOf widths packed bytesOf lawOf allBelow lengthWrong sheetCountsRight constantsRight yieldsRight headerRight lengthsRight tangentsRight sheetFieldRefusals sheetRefusals segmentsIn sheetOf segmentsBytes sheetBytes
 board-right =
     (record { sheet-passes = refl; pairs-pass = refl; rows-right = refl }, (record { sheet-passes = refl; pairs-pass = refl; rows-right = refl }, (record { sheet-passes = refl; pairs-pass = refl; rows-right = refl }, (record { sheet-passes = refl; pairs-pass = refl; rows-right = refl }, (record { sheet-passes = refl; pairs-pass = refl; rows-right = refl }, (record { sheet-passes = refl; pairs-pass = refl; rows-right = refl }, (record { sheet-passes = refl; pairs-pass = refl; rows-right = refl }, (record { sheet-passes = refl; pairs-pass = refl; rows-right = refl }, (record { sheet-passes = refl; pairs-pass = refl; rows-right = refl }, tt)))))))))
 
@@ -36,5 +36,5 @@ board-right =
 pub last-fraction : isotropic (sideOf (softSteel .modulus .0) (lit< tt) (curveOf (softSteel .tension))) (whole (trialOf softSteel (unusedOf softSteel) (pairOf softPull)))
     (whole (unusedOf softSteel .first .0)) .stress
     ≈F record { num = pos 3000002; den = 3; den-pos = lit< tt }
-unfolding isotropic limitF height rise curveOf segmentsOf sevenPlaces leF whole _+F_ _-F_ negF absF signedF trialOf unusedOf thermalOf pairBytes field twos bitsOf widths packed bytesOf
+unfolding isotropic limitF height rise curveOf segmentsOf allPlaces leF whole _+F_ _-F_ negF absF signedF trialOf unusedOf thermalOf pairBytes field twos bitsOf widths packed bytesOf
 last-fraction = record { cross = refl }

@@ -16,7 +16,7 @@ use Rattle.ranges.specs.Ranges.{grains}
 use Rattle.units.specs.Kinds.{nano, tenths, lengthOf, magnitude, modulus, expansion}
 use Rattle.curve.specs.declared.Segment.{Segment}
 use Rattle.curve.specs.declared.Side.{Side}
-use Rattle.sheet.specs.Sheets.{sevenPlaces, sheetRefusals, sheetOf}
+use Rattle.sheet.specs.Sheets.{allPlaces, sheetRefusals, sheetOf}
 use Rattle.sheet.specs.Bytes.{sheetBytes}
 use Rattle.sheet.specs.declared.Sheet.{Sheet}
 use Rattle.pair.specs.Pairs.{pairBytes}
@@ -30,7 +30,7 @@ segment length tangent = record { length = lengthOf length; tangent = modulus ta
 
 abbrev pub side : (yield : ℕ) → List Segment → Side
 side yield segments =
-    record { «yield_stress» = magnitude (yield * grains); count = length segments; segments = sevenPlaces segments }
+    record { «yield_stress» = magnitude (yield * grains); count = length segments; segments = allPlaces segments }
 
 -- SPEC 13.1: the reference temperature of the board's sheets, 20 degrees, which is our choice.
 abbrev pub reference : ℤ

@@ -14,9 +14,8 @@ use Rattle.rod.specs.declared.step.Advance.{Advance}
 use Rattle.rod.specs.Steps.{trialOf, stepRefusals, advanceOf}
 use Rattle.carry.specs.declared.Reached.{Reached}
 use Rattle.carry.specs.declared.Carried.{Carried}
-use Rattle.carry.specs.declared.Tried.the-variants.{Accepted, Refused}
 use Rattle.carry.specs.Walk.{pairAnswer}
-use Rattle.carry.specs.Reaching.{reachedOf, triedBy, Stands}
+use Rattle.carry.specs.Reaching.{reachedOf, withLimits, Stands}
 use Rattle.carry.proofs.PairAnswers.{next-passes}
 
 pub limits-stand : {h : Sheet} {x : Reached} → Stands h x → x .limits ≡ limitsOf h (x .rod .first .0) (x .rod .second .0)
@@ -42,13 +41,13 @@ stands-next {h} pair {a} stands e is =
     subst (Stands h) (sym is) (record { accepted = next-passes pair (stands .accepted) e .0 .accepted; reached = refl })
 
 -- What an answer says of the pair's table.
-pub tried-accepted : (h : Sheet) (x : Answer Advance) {c : Carried} → Accepted c ≡ triedBy h x
+pub tried-accepted : (h : Sheet) (x : Answer Advance) {c : Carried} → passes c ≡ withLimits h x
     → (x ≡ passes (record { rod = c .to .rod; row = c .row })) × (c .to ≡ reachedOf h (c .to .rod))
 tried-accepted h (passes a) {c} e =
     let same : c ≡ record { to = reachedOf h (a .rod); row = a .row } = cc in
     (λ i. passes (record { rod = sym same i .to .rod; row = sym same i .row }), (λ i. same i .to) ∙ (λ i. reachedOf h (sym same i .to .rod)))
 tried-accepted h (refused n) {c} e = let z : _≡_ {A = ℕ} 0 1 = cc in absurd (omega arith)
 
-pub tried-refused : (h : Sheet) (x : Answer Advance) {n : ℕ} → Refused n ≡ triedBy h x → x ≡ refused n
+pub tried-refused : (h : Sheet) (x : Answer Advance) {n : ℕ} → refused n ≡ withLimits h x → x ≡ refused n
 tried-refused h (passes a) {n} e = let z : _≡_ {A = ℕ} 0 1 = cc in absurd (omega arith)
 tried-refused h (refused m) {n} e = let same : n ≡ m = cc in ap refused (sym same)

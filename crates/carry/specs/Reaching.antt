@@ -1,6 +1,5 @@
 -- A rod with the yield limits that it has reached, and what trying a pair on it answers (SPEC 7.12, 7.15), cited by the contracts of this
 -- crate, judge and tie_rod; definitions only, nothing is assumed.
-use Prim.Native.Nat.{ℕ}
 use mathlib.Core.Path.{_≡_}
 use Rattle.refusals.specs.Table.{Answer, passes, refused}
 use Rattle.sheet.specs.declared.Sheet.{Sheet}
@@ -9,6 +8,7 @@ use Rattle.rod.specs.declared.Rod.{Rod}
 use Rattle.rod.specs.declared.step.Advance.{Advance}
 use Rattle.rod.specs.Accepted.{Accepted}
 use Rattle.carry.specs.declared.Reached.{Reached}
+use Rattle.carry.specs.declared.Carried.{Carried}
 use Rattle.carry.specs.declared.Tried.{Tried}
 use Rattle.carry.specs.declared.Tried.the-variants as tried
 
@@ -21,7 +21,12 @@ pub record Stands (h : Sheet) (x : Reached) : Type 0 where
   pub accepted : Accepted h (x .rod)
   pub reached : x ≡ reachedOf h (x .rod)
 
--- SPEC 7.15, 8.8: the number, or the rod carried on with its row, for each case of the answer.
-abbrev pub triedBy : Sheet → Answer Advance → Tried
-triedBy h (passes a) = tried.Accepted (record { to = reachedOf h (a .rod); row = a .row })
-triedBy h (refused number) = tried.Refused number
+-- SPEC 7.15: what the table of a pair answers, with the limits beside the rod.
+abbrev pub withLimits : Sheet → Answer Advance → Answer Carried
+withLimits h (passes a) = passes (record { to = reachedOf h (a .rod); row = a .row })
+withLimits h (refused number) = refused number
+
+-- SPEC 8.8: the number, or the rod carried on with its row, that each case of the answer stands for.
+abbrev pub triedMeaning : Tried → Answer Carried
+triedMeaning (tried.Accepted carried) = passes carried
+triedMeaning (tried.Refused number) = refused number

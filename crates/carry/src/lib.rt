@@ -12,7 +12,7 @@ ghost use Rattle.sheet.specs.Sound.{SheetSound};
 ghost use Rattle.rod.specs.Steps.{advanceOf, stepRefusals};
 ghost use Rattle.rod.specs.Accepted.{PairAccepted};
 ghost use Rattle.carry.specs.Walk.{pairAnswer};
-ghost use Rattle.carry.specs.Reaching.{reachedOf, triedBy, Stands};
+ghost use Rattle.carry.specs.Reaching.{reachedOf, triedMeaning, withLimits, Stands};
 
 // A rod with the yield limits at its variables (SPEC 7.12). They are found once and kept up from pair to pair.
 pub struct Reached {
@@ -49,7 +49,7 @@ impl Reached {
     // Tries a pair: 9, 11, 10 in that order, or the rod carried on.
     pub fn over(self, sheet: Sheet, pair: Pair) -> Tried
         requires { ⌜ Stands sheet self × PairAccepted pair ⌝ }
-        ensures { λ r. ⌜ r ≡ triedBy sheet (firstOf (stepRefusals sheet (self .rod) pair) (advanceOf sheet (self .rod) pair)) ⌝ }
+        ensures { λ r. ⌜ triedMeaning r ≡ withLimits sheet (firstOf (stepRefusals sheet (self .rod) pair) (advanceOf sheet (self .rod) pair)) ⌝ }
     {
         let rod = self.rod;
         let limits = self.limits;
@@ -77,7 +77,7 @@ impl Reached {
     // Tries the pair in some bytes: 8, and then as above.
     pub fn over_bytes(self, sheet: Sheet, bytes: &[u8]) -> Tried
         requires { ⌜ Stands sheet self ⌝ }
-        ensures { λ r. ⌜ r ≡ triedBy sheet (pairAnswer sheet (self .rod) (now (bytes .entry))) ⌝ }
+        ensures { λ r. ⌜ triedMeaning r ≡ withLimits sheet (pairAnswer sheet (self .rod) (now (bytes .entry))) ⌝ }
     {
         let PairRead::Accepted(pair) = pair::read(bytes) else {
             return Tried::Refused(8);

@@ -17,13 +17,17 @@ use Rattle.units.specs.declared.Magnitude.{Magnitude}
 use Rattle.units.specs.declared.Modulus.{Modulus}
 use Rattle.curve.specs.declared.Side.{Side}
 use Rattle.curve.specs.Sides.{curveOf, readingOf}
-use Rattle.curve.specs.Curve.{Curve, Below, Falling, height, limitAt, abscissaOf, limitF, plasticF}
+use Rattle.curve.specs.Curve.{Curve, Below, Falling, height, limitAt, abscissaOf, limitF}
 use Rattle.curve.proofs.Height.{height-scale, height-below-yield, height-concave, height-below}
 
 -- The numerator that is read as an abscissa, of a fraction that is (p - n) / d too.
 abscissa-is : (z : ℤ) (e d p n : ℕ) → e * p + d * dn z ≡ e * n + d * up z → d * abscissaOf z ≡ e * (p - n)
 abscissa-is (pos k) e d p n same = rw (mul-sub e p n) (omega arith)
 abscissa-is (negsuc k) e d p n same = rw (mul-sub e p n) (omega arith)
+
+-- E times accumulated plastic strain (SPEC 4.7), as flow's `accumulated` has it of a side: what the abscissa has beyond its yield limit.
+abbrev pub plasticF : (E : ℕ) → 0 < E → Curve → Frac → Frac
+plasticF E some c x = x -F limitF E some c x
 
 module _ (E : ℕ) (some : 0 < E) (c : Curve) where
   abbrev over : ℕ → ℕ → ℕ

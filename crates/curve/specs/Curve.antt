@@ -3,7 +3,7 @@
 use Prim.Native.Nat.{ℕ, _+_, _-_, _*_, _/_, _≤_, _<_, min}
 use native.Mathlib.Nat.{mul-pos}
 use lib.IntN.{ℤ, pos, negsuc}
-use Rattle.fractions.specs.Fraction.{Frac, _-F_}
+use Rattle.fractions.specs.Fraction.{Frac}
 
 -- SPEC 4.1: the segments of a side in their order, each with a length in nano and a tangent modulus. The last one goes on without end.
 pub data Segments : Type 0 where
@@ -53,7 +53,3 @@ limitF E some c x =
       den = E * x .den;
       den-pos = mul-pos some (x .den-pos);
     }
-
--- SPEC 4.7: E times accumulated plastic strain, which is what the abscissa has beyond its yield limit.
-abbrev pub plasticF : (E : ℕ) → 0 < E → Curve → Frac → Frac
-plasticF E some c x = x -F limitF E some c x

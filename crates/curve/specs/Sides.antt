@@ -12,13 +12,17 @@ use Rattle.curve.specs.declared.Reading.{Reading}
 use Rattle.curve.specs.Curve.{Segments, last, segment, Curve, limitAt}
 use Rattle.curve.specs.Tangent.{tangentAt}
 
+-- SPEC 3.7, 3.9: the most segments that a side has, each in its place.
+abbrev pub mostSegments : ℕ
+mostSegments = 7
+
 -- SPEC 4.1: a list of segments whose last one has no end, whatever its length says. SPEC 4.8: without a segment a side would be flat.
 unfoldable pub segmentsOf : List Segment → Segments
 segmentsOf [] = last 0
 segmentsOf (s ∷ []) = last (s .tangent .0)
 segmentsOf (s ∷ (next ∷ rest)) = segment (s .length .0) (s .tangent .0) (segmentsOf (next ∷ rest))
 
--- SPEC 3.9: the curve of a side: its yield, and the first `count` of its seven places.
+-- SPEC 3.9: the curve of a side: its yield, and the first `count` of its places.
 unfoldable pub curveOf : Side → Curve
 curveOf side = record { yield = side .«yield_stress» .0; segments = segmentsOf (take (side .count) (side .segments)) }
 
@@ -42,7 +46,7 @@ tangentOf side i = getD (side .segments) i flat .tangent .0
 -- SPEC 4.10: what reading a side in 64 bits asks of it.
 pub record Readable (side : Side) (e : Modulus) : Type 0 where
   pub count-positive : 0 < side .count
-  pub count-fits : side .count ≤ 7
+  pub count-fits : side .count ≤ mostSegments
   pub modulus-positive : 0 < e .0
   pub modulus-fits : e .0 ≤ 2 ^ 32
   pub tangents-fit : (i : ℕ) → i < side .count → tangentOf side i ≤ e .0

@@ -13,11 +13,14 @@ pub struct Segment {
     pub tangent: Modulus,
 }
 
-// One side of the curve, tension or compression: the yield stress, and `count` segments of the seven (SPEC 3.9).
+// The most segments of a side (SPEC 3.7, 3.9).
+pub const MOST_SEGMENTS: usize = 7;
+
+// One side of the curve, tension or compression: the yield stress, and `count` segments (SPEC 3.9).
 pub struct Side {
     pub yield_stress: Magnitude,
     pub count: usize,
-    pub segments: [Segment; 7],
+    pub segments: [Segment; MOST_SEGMENTS],
 }
 
 // What the curve says at an abscissa (SPEC 4.10): the yield limit, rounded down, and the tangent modulus.

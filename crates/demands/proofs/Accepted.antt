@@ -35,7 +35,7 @@ use Rattle.tie_rod.proofs.PieceLaws.{length-pieces, pieces-within}
 use Rattle.tie_rod.proofs.CallLaws.{lengths-pass}
 use Rattle.demands.specs.Lists.{stateAfter, acceptedIn, stateIn}
 use Rattle.demands.proofs.Splits.{take-pieces, history-passes, rows-back}
-use Rattle.demands.proofs.Demand1.{when-call, when-all, accepted-most, accepted-none, accepts, next-long, written-as, pairs-leave}
+use Rattle.demands.proofs.Demand1.{when-call, when-all, call-number, accepted-most, accepted-none, accepts, next-long, written-as, pairs-leave}
 
 -- A list of j pairs, with room for j rows and a state, meets neither 7 nor 12.
 roomy-run : (j pairs rows next : ℕ) → j ≤ mostPairs → pairs ≡ pairLength * j → rows ≡ rowLength * j → next ≡ stateLength → NoneApplies (lengthRefusals run pairs rows next)
@@ -90,14 +90,6 @@ module _ (sheet state : List ℕ) (standing : NoneApplies (standingRefusals shee
       after-rod : stateOf (stateAfter sheet state c) ≡ lastRod r advances
 
     -- A call refused itself accepts none, and hands the old state on.
-    call-number : {n : ℕ} → Given (callRefusals c) n → n ≡ 0 → ⊥
-    unfolding lengthRefusals listRefusals bufferRefusals
-    call-number g = by-kind (c .kind) (given-refused (callRefusals c) c g)
-      where
-        by-kind : (k : Kind) {n : ℕ} → firstOf (lengthRefusals k (length (c .pairs)) (length (c .rows)) (length (c .next))) c ≡ refused n → n ≡ 0 → ⊥
-        by-kind single e = answer-number (λ (n : ℕ). n ≡ 0 → ⊥) (lengthRefusals single (length (c .pairs)) (length (c .rows)) (length (c .next))) c ((λ z. omega (arith, z)), ((λ z. omega (arith, z)), tt)) e
-        by-kind run e = answer-number (λ (n : ℕ). n ≡ 0 → ⊥) (lengthRefusals run (length (c .pairs)) (length (c .rows)) (length (c .next))) c ((λ z. omega (arith, z)), ((λ z. omega (arith, z)), tt)) e
-
     old-handed-on : {n : ℕ} → Given (callRefusals c) n → stateAfter sheet state c ≡ state
     unfolding stateAfter handed
     old-handed-on g =
@@ -146,7 +138,7 @@ module _ (sheet state : List ℕ) (standing : NoneApplies (standingRefusals shee
     wrote = by-call (decides (callRefusals c))
       where
         by-call : ((n : ℕ) × Given (callRefusals c) n) ⊎ NoneApplies (callRefusals c) → Wrote accepted
-        by-call (inl (n, g)) = subst Wrote (sym (accepted-none sheet state c state (call-number g) (when-call sheet state c standing g))) (wrote-none g)
+        by-call (inl (n, g)) = subst Wrote (sym (accepted-none sheet state c state (call-number sheet state c g) (when-call sheet state c standing g))) (wrote-none g)
         by-call (inr own) = wrote-some own
 
     -- ---- The first j of them

@@ -12,7 +12,7 @@ use lib.Dec.{eqb}
 use lib.ListN.{length, getD, drop, length-append}
 use lib.Seq.{take-at}
 use Rattle.refusals.specs.Table.{Refusal, Answer, passes, refused, firstOf, NoneApplies, Given}
-use Rattle.refusals.proofs.FirstLaws.{none-passes, none-split, given-refused, decides, first-follows}
+use Rattle.refusals.proofs.FirstLaws.{answer-number, none-passes, none-split, given-refused, decides, first-follows}
 use Rattle.pair.specs.Pairs.{pairOf, pairLength, pairRefusals, listRefusals}
 use Rattle.row.specs.Rows.{rowLength}
 use Rattle.sheet.specs.declared.Sheet.{Sheet}
@@ -60,6 +60,26 @@ module _ (sheet state : List ℕ) (c : Call) where
   -- that is refused itself,
   pub when-call : {n : ℕ} → NoneApplies (standingRefusals sheet state) → Given (callRefusals c) n → leaves ≡ stopped n state c
   when-call none g = call-stops sheet state c (none-passes (standingRefusals sheet state) ready none) (given-refused (callRefusals c) ready g)
+
+  -- No line of these tables has number 0.
+  abbrev Some : ℕ → Type 0
+  Some n = n ≡ 0 → ⊥
+
+  standing-number : {n : ℕ} → Given (standingRefusals sheet state) n → Some n
+  unfolding standingRefusals sheetRefusals sheetFieldRefusals stateRefusals states.stateFieldRefusals againstRefusals
+  standing-number g =
+      answer-number Some (standingRefusals sheet state) ready
+      ((λ z. omega (arith, z)), ((λ z. omega (arith, z)), ((λ z. omega (arith, z)), ((λ z. omega (arith, z)), ((λ z. omega (arith, z)), ((λ z. omega (arith, z)), tt))))))
+      (given-refused (standingRefusals sheet state) ready g)
+
+  pub call-number : {n : ℕ} → Given (callRefusals c) n → Some n
+  unfolding lengthRefusals listRefusals bufferRefusals
+  call-number g = by-kind (c .kind) (given-refused (callRefusals c) ready g)
+    where
+      by-kind : (k : Kind) {n : ℕ} → let table = lengthRefusals k (length (c .pairs)) (length (c .rows)) (length (c .next)) in
+          firstOf table ready ≡ refused n → Some n
+      by-kind single e = answer-number Some (lengthRefusals single (length (c .pairs)) (length (c .rows)) (length (c .next))) ready ((λ z. omega (arith, z)), ((λ z. omega (arith, z)), tt)) e
+      by-kind run e = answer-number Some (lengthRefusals run (length (c .pairs)) (length (c .rows)) (length (c .next))) ready ((λ z. omega (arith, z)), ((λ z. omega (arith, z)), tt)) e
 
   -- and one whose pairs were walked.
   abbrev pub wentTo : Walk → Left
@@ -157,6 +177,29 @@ module _ (sheet state : List ℕ) (c : Call) where
       by-end (inr (m, n, f)) =
           subst (Accepts sheet state c) (sym (accepted-until none own f))
           (record { standing = none; own = own; advances = f .advances; history = f .history })
+
+  -- What the answer tells of it is the same.
+  told : leaves .reply .accepted ≡ acceptedIn sheet state c
+  told = by-standing (decides (standingRefusals sheet state))
+    where
+      told-of : {l : Left} → leaves ≡ l → leaves .reply .accepted ≡ l .reply .accepted
+      told-of e = ap (λ (l : Left). l .reply .accepted) e
+
+      by-end : NoneApplies (standingRefusals sheet state) → NoneApplies (callRefusals c) → Ends → leaves .reply .accepted ≡ acceptedIn sheet state c
+      by-end none own (inl all) =
+          let e = when-all none own (all .advances) (all .history) in
+          told-of e ∙ counted (countIn (c .pairs)) (all .advances) (all .history) ∙ sym (accepted-of e)
+      by-end none own (inr (m, n, f)) = told-of (when-until none own f) ∙ counted m (f .advances) (f .history) ∙ sym (accepted-until none own f)
+
+      by-call : NoneApplies (standingRefusals sheet state) → ((n : ℕ) × Given (callRefusals c) n) ⊎ NoneApplies (callRefusals c)
+          → leaves .reply .accepted ≡ acceptedIn sheet state c
+      by-call none (inl (n, g)) = let e = when-call none g in told-of e ∙ sym (accepted-none state (call-number g) e)
+      by-call none (inr own) = by-end none own pairs-end
+
+      by-standing : ((n : ℕ) × Given (standingRefusals sheet state) n) ⊎ NoneApplies (standingRefusals sheet state)
+          → leaves .reply .accepted ≡ acceptedIn sheet state c
+      by-standing (inl (n, g)) = let e = when-standing g in told-of e ∙ sym (accepted-none zeroState (standing-number g) e)
+      by-standing (inr none) = by-call none (decides (callRefusals c))
 
   -- ---- The lent buffers
 
@@ -309,6 +352,7 @@ module _ (sheet state : List ℕ) (c : Call) where
         order = order;
         pair-order = pair-order;
         exactly = exactly;
+        told = told;
         standing-leaves = λ n g. untouched (when-standing g);
         call-leaves = λ n w. untouched (when-call (w .standing) (w .given));
         pairs-leave = pairs-leave;

@@ -99,6 +99,8 @@ pub record CallAnswered (sheet state : List ℕ) (c : Call) : Type 0 where
   -- a number and a place are answered exactly where there is a reason for them
   pub exactly : (number place : ℕ)
       → ((callLeaves sheet state c .reply .number ≡ number) × (callLeaves sheet state c .reply .place ≡ place)) ↔ Reason sheet state c number place
+  -- the answer says how many pairs were accepted: as many as number and place say (SPEC 9.3, 11.3)
+  pub told : callLeaves sheet state c .reply .accepted ≡ acceptedIn sheet state c
   -- what a call leaves, by the stage that refused it (SPEC 8.6)
   pub standing-leaves : (n : ℕ) → Given (standingRefusals sheet state) n → Untouched zeroState c (callLeaves sheet state c)
   pub call-leaves : (n : ℕ) → ByCall sheet state c n 0 → Untouched state c (callLeaves sheet state c)

@@ -18,7 +18,7 @@ use Rattle.curve.specs.declared.Segment.{Segment}
 use Rattle.curve.specs.Sides.{flat, lengthAt, tangentOf}
 use Rattle.bits.specs.Field.{within}
 use Rattle.sheet.specs.declared.Sheet.{Sheet}
-use Rattle.sheet.specs.Sheets.{lawIn, tensionCount, compressionCount, modulusIn, expansionIn, referenceIn, tensionYield, compressionYield, headerZeroBits, segmentLengthIn, segmentTangentIn, allBelow, mostTension, compressionOf, compressionYieldRight, lengthRight, tangentRight, sheetCountsRight, constantsRight, yieldsRight, headerRight, lengthsRight, tangentsRight, sheetFieldRefusals, sheetRefusals, segmentIn, segmentsIn, sevenPlaces, sideIn, sheetOf}
+use Rattle.sheet.specs.Sheets.{lawIn, tensionCount, compressionCount, modulusIn, expansionIn, referenceIn, tensionYield, compressionYield, headerZeroBits, segmentLengthIn, segmentTangentIn, allBelow, mostTension, compressionOf, compressionYieldRight, lengthRight, tangentRight, sheetCountsRight, constantsRight, yieldsRight, headerRight, lengthsRight, tangentsRight, sheetFieldRefusals, sheetRefusals, segmentIn, segmentsIn, allPlaces, sideIn, sheetOf}
 use Rattle.sheet.specs.Sound.{SideSound, SheetSound}
 use Rattle.sheet.proofs.SheetLaws.{few-segments, length-segmentsIn}
 
@@ -51,8 +51,8 @@ segment-at s first (suc n) i h = by-place (λ l. segment-at s first n i l) (decL
         let last : i ≡ n = omega arith in
         rw last (getD-at (segmentsIn s first n) (segmentIn s (first + n)) [] flat n (length-segmentsIn s first n))
 
-place-at : (s : List ℕ) (first n i : ℕ) → i < n → getD (sevenPlaces (segmentsIn s first n)) i flat ≡ segmentIn s (first + i)
-unfolding sevenPlaces
+place-at : (s : List ℕ) (first n i : ℕ) → i < n → getD (allPlaces (segmentsIn s first n)) i flat ≡ segmentIn s (first + i)
+unfolding allPlaces
 place-at s first n i h =
     List·getD-append (segmentsIn s first n) (replicate (7 - length (segmentsIn s first n)) flat) flat i (rw (length-segmentsIn s first n) h) ∙ segment-at s first n i h
 
@@ -62,8 +62,8 @@ tangent-is s yield first n i h = ap (λ (g : Segment). g .tangent .0) (place-at 
 length-is : (s : List ℕ) (yield first n i : ℕ) → i < n → lengthAt (sideIn s yield first n) i ≡ segmentLengthIn s (first + i)
 length-is s yield first n i h = ap (λ (g : Segment). g .length .0) (place-at s first n i h)
 
-seven : (s : List ℕ) (first n : ℕ) → n ≤ 7 → length (sevenPlaces (segmentsIn s first n)) ≡ 7
-unfolding sevenPlaces
+seven : (s : List ℕ) (first n : ℕ) → n ≤ 7 → length (allPlaces (segmentsIn s first n)) ≡ 7
+unfolding allPlaces
 seven s first n h =
     rw (length-append (segmentsIn s first n) (replicate (7 - length (segmentsIn s first n)) flat), length-replicate (7 - length (segmentsIn s first n)) flat, length-segmentsIn s first n) (omega arith)
 

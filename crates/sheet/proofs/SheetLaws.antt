@@ -19,7 +19,7 @@ use Rattle.bits.specs.Field.{within}
 use Rattle.bits.proofs.FieldLaws.{field-at-below}
 use Rattle.bits.proofs.RangeLaws.{within-itself}
 use Rattle.sheet.specs.SheetLayout.{headerLayout}
-use Rattle.sheet.specs.Sheets.{tensionCount, compressionCount, compressionOf, compressionYieldRight, lengthRight, segmentLengthIn, allBelow, modulusIn, segmentTangentIn, tangentRight, segmentIn, segmentsIn, sevenPlaces, lengthsRight}
+use Rattle.sheet.specs.Sheets.{tensionCount, compressionCount, compressionOf, compressionYieldRight, lengthRight, segmentLengthIn, allBelow, modulusIn, segmentTangentIn, tangentRight, segmentIn, segmentsIn, allPlaces, lengthsRight}
 use Rattle.sheet.specs.declared.SegmentsRead.{SegmentsRead}
 use Rattle.sheet.specs.ReaderAnswers.{leastLength, segmentsRead}
 
@@ -78,8 +78,8 @@ length-segmentsIn s first (suc n) = length-append (segmentsIn s first n) (segmen
 
 -- The next segment, stored in the first free place.
 pub places-more : (s : List ℕ) (first i : ℕ) → i < 7
-    → set (sevenPlaces (segmentsIn s first i)) i (segmentIn s (first + i)) ≡ sevenPlaces (segmentsIn s first (i + 1))
-unfolding sevenPlaces segmentsIn
+    → set (allPlaces (segmentsIn s first i)) i (segmentIn s (first + i)) ≡ allPlaces (segmentsIn s first (i + 1))
+unfolding allPlaces segmentsIn
 places-more s first i h =
     let l = segmentsIn s first i in
     let g = segmentIn s (first + i) in
@@ -104,10 +104,10 @@ pub segments-right : (s : List ℕ) (first count : ℕ) → segmentsRead s first
 unfolding segmentsRead
 segments-right s first count = by-test (lengthsRight s first count)
   where
-    by-test : (t : Bool) → cond {A = SegmentsRead} t (record { right = true; segments = sevenPlaces (segmentsIn s first count) }) (record { right = false; segments = sevenPlaces [] }) .right ≡ t
+    by-test : (t : Bool) → cond {A = SegmentsRead} t (record { right = true; segments = allPlaces (segmentsIn s first count) }) (record { right = false; segments = allPlaces [] }) .right ≡ t
     by-test true = refl
     by-test false = refl
 
-pub segments-read : (s : List ℕ) (first count : ℕ) → lengthsRight s first count ≡ true → segmentsRead s first count .segments ≡ sevenPlaces (segmentsIn s first count)
+pub segments-read : (s : List ℕ) (first count : ℕ) → lengthsRight s first count ≡ true → segmentsRead s first count .segments ≡ allPlaces (segmentsIn s first count)
 unfolding segmentsRead
 segments-read s first count h = rw h

@@ -23,7 +23,7 @@ use Rattle.sheet.specs.declared.SegmentsRead.{SegmentsRead}
 use Rattle.sheet.specs.declared.SheetRead.{SheetRead}
 use Rattle.sheet.specs.declared.Verdict.the-variants as verdict
 use Rattle.curve.specs.declared.Segment.{Segment}
-use Rattle.sheet.specs.Sheets.{lawIn, tensionCount, compressionCount, sheetCountsRight, modulusIn, expansionIn, referenceIn, tensionYield, compressionYield, constantsRight, yieldsRight, headerRight, lengthsRight, sevenPlaces, segmentsIn}
+use Rattle.sheet.specs.Sheets.{lawIn, tensionCount, compressionCount, sheetCountsRight, modulusIn, expansionIn, referenceIn, tensionYield, compressionYield, constantsRight, yieldsRight, headerRight, lengthsRight, allPlaces, segmentsIn}
 
 -- SPEC 3.7, 3.9: what stands in the header: law and counts; E, expansion and reference temperature; yields in grains; and all of it.
 abbrev pub countsOf : List ℕ → Counts
@@ -59,8 +59,8 @@ leastLength i count = cond (eqb (i + 1) count) 0 1
 unfoldable pub segmentsRead : List ℕ → ℕ → ℕ → SegmentsRead
 segmentsRead s first count =
     cond (lengthsRight s first count)
-    (record { right = true; segments = sevenPlaces (segmentsIn s first count) })
-    (record { right = false; segments = sevenPlaces [] })
+    (record { right = true; segments = allPlaces (segmentsIn s first count) })
+    (record { right = false; segments = allPlaces [] })
 
 -- SPEC 8.8: a sheet that is accepted, from its header and the segments of both sides.
 abbrev pub acceptedAs : Header → List Segment → List Segment → SheetRead

@@ -27,10 +27,10 @@ sheetLength segments = headerLength + segmentLength * segments
 abbrev pub segmentAt : ℕ → ℕ
 segmentAt i = 8 * (headerLength + segmentLength * i)
 
--- SPEC 3.7: no sheet has more segments, right or wrong, since each count has three bits,
-abbrev pub mostSegments : ℕ
-mostSegments = 7 + 7
+-- SPEC 3.7: no sheet counts more segments, right or wrong, since each count has three bits,
+abbrev pub mostCounted : ℕ
+mostCounted = 7 + 7
 
 -- and none is longer.
 abbrev pub longestSheet : ℕ
-longestSheet = sheetLength mostSegments
+longestSheet = sheetLength mostCounted

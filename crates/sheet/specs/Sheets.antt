@@ -14,7 +14,7 @@ use Rattle.law.specs.declared.Law.the-variants.{IsotropicLine, IsotropicCurve, 
 use Rattle.law.specs.Laws.{lawOf, hasSecond}
 use Rattle.curve.specs.declared.Segment.{Segment}
 use Rattle.curve.specs.declared.Side.{Side}
-use Rattle.curve.specs.Sides.{flat}
+use Rattle.curve.specs.Sides.{mostSegments, flat}
 use Rattle.bits.specs.Field.{within, flag}
 use Rattle.bits.specs.Layout.{fieldAt, fieldFrom, wholeAt}
 use Rattle.sheet.specs.declared.Sheet.{Sheet}
@@ -70,7 +70,7 @@ allBelow test (suc n) = allBelow test n && test n
 -- SPEC 1.3, 3.7: the most segments in tension,
 abbrev pub mostTension : Law → ℕ
 mostTension IsotropicLine = 1
-mostTension IsotropicCurve = 7
+mostTension IsotropicCurve = mostSegments
 mostTension Kinematic = 1
 mostTension Asymmetric = 1
 
@@ -143,14 +143,14 @@ unfoldable pub segmentsIn : List ℕ → ℕ → ℕ → List Segment
 segmentsIn s first zero = []
 segmentsIn s first (suc n) = segmentsIn s first n ++ (segmentIn s (first + n) ∷ [])
 
--- SPEC 3.9: a side has seven places; those behind its last segment are flat and of no length.
-unfoldable pub sevenPlaces : List Segment → List Segment
-sevenPlaces l = l ++ replicate (7 - length l) flat
+-- SPEC 3.9: a side with all its places; those behind its last segment are flat and of no length.
+unfoldable pub allPlaces : List Segment → List Segment
+allPlaces l = l ++ replicate (mostSegments - length l) flat
 
 -- SPEC 3.9: a side, its yield turned into grains, and its segments.
 abbrev pub sideIn : List ℕ → ℕ → ℕ → ℕ → Side
 sideIn s yield first count =
-    record { «yield_stress» = magnitude (yield * grains); count = count; segments = sevenPlaces (segmentsIn s first count) }
+    record { «yield_stress» = magnitude (yield * grains); count = count; segments = allPlaces (segmentsIn s first count) }
 
 -- SPEC 3.9: what a sheet holds.
 unfoldable pub sheetOf : List ℕ → Sheet

@@ -7,15 +7,15 @@ use lib.ListN.{length}
 use Rattle.ranges.specs.Ranges.{temperatureRight, mostModulus, mostExpansion, mostYield, mostLength, grains}
 use Rattle.law.specs.declared.Law.the-variants.{Kinematic, Asymmetric}
 use Rattle.curve.specs.declared.Side.{Side}
-use Rattle.curve.specs.Sides.{lengthAt}
+use Rattle.curve.specs.Sides.{mostSegments, lengthAt}
 pub use Rattle.curve.specs.Sides.{tangentOf}
 use Rattle.sheet.specs.declared.Sheet.{Sheet}
 
 -- SPEC 3.10: one side, E being Young's modulus.
 pub record SideSound (E : ℕ) (side : Side) : Type 0 where
   pub count-least : 1 ≤ side .count
-  pub count-most : side .count ≤ 7
-  pub places : length (side .segments) ≡ 7
+  pub count-most : side .count ≤ mostSegments
+  pub places : length (side .segments) ≡ mostSegments
   pub yield-least : grains ≤ side .«yield_stress» .0
   pub yield-most : side .«yield_stress» .0 ≤ mostYield * grains
   pub tangents-below : (i : ℕ) → i < side .count → tangentOf side i < E

@@ -21,10 +21,11 @@ ghost use Rattle.refusals.specs.Table.{firstOf};
 ghost use Rattle.ranges.specs.Ranges.{temperatureRight};
 ghost use Rattle.bits.specs.Field.{unsignedIf, within};
 ghost use Rattle.units.specs.Kinds.{nano};
-ghost use Rattle.sheet.specs.SheetLayout.{segmentAt, mostSegments, longestSheet};
+ghost use Rattle.curve.specs.Sides.{mostSegments};
+ghost use Rattle.sheet.specs.SheetLayout.{segmentAt, mostCounted, longestSheet};
 ghost use Rattle.sheet.specs.Sound.{SheetSound};
 ghost use Rattle.sheet.specs.Thermal.{thermalOf};
-ghost use Rattle.sheet.specs.Sheets.{mostTension, compressionOf, countedLength, segmentLengthIn, modulusIn, segmentTangentIn, tangentsRight, sevenPlaces, headerRight, sheetFieldRefusals, sheetRefusals, sheetOf, sheetReadMeaning};
+ghost use Rattle.sheet.specs.Sheets.{mostTension, compressionOf, countedLength, segmentLengthIn, modulusIn, segmentTangentIn, tangentsRight, allPlaces, headerRight, sheetFieldRefusals, sheetRefusals, sheetOf, sheetReadMeaning};
 ghost use Rattle.sheet.specs.ReaderAnswers.{countsIn, constantsIn, yieldsIn, headerIn, headerOf, leastLength, segmentsRead, acceptedAs};
 
 // What a sheet that passes says: yields in grains, lengths in nano, tangents and Young's modulus in MPa.
@@ -101,7 +102,7 @@ enum HeaderRead {
 // The segments of a side, and whether their lengths are right.
 struct SegmentsRead {
     right: bool,
-    segments: [Segment; 7],
+    segments: [Segment; curve::MOST_SEGMENTS],
 }
 
 fn most_tension(law: Law) -> u64
@@ -109,7 +110,7 @@ fn most_tension(law: Law) -> u64
 {
     match law {
         Law::IsotropicLine => 1,
-        Law::IsotropicCurve => 7,
+        Law::IsotropicCurve => curve::MOST_SEGMENTS as u64,
         Law::Kinematic => 1,
         Law::Asymmetric => 1,
     }
@@ -253,7 +254,7 @@ fn read_header(s: &[u8]) -> HeaderRead
 
 // The least length of a segment: 0 for the last one of its side.
 fn least_length(i: usize, count: usize) -> u64
-    requires { ⌜ i < 7 ⌝ }
+    requires { ⌜ i < mostSegments ⌝ }
     ensures { λ r. ⌜ r ≡ leastLength i count ⌝ }
 {
     if i + 1 == count {
@@ -264,7 +265,7 @@ fn least_length(i: usize, count: usize) -> u64
 
 // The bit where a segment of the sheet begins.
 fn segment_at(i: usize) -> usize
-    requires { ⌜ i < mostSegments ⌝ }
+    requires { ⌜ i < mostCounted ⌝ }
     ensures { λ r. ⌜ r ≡ segmentAt i ⌝ }
     ensures most { λ r. ⌜ r ≤ 8 * longestSheet ⌝ }
 {
@@ -273,7 +274,7 @@ fn segment_at(i: usize) -> usize
 
 // The length of a segment, within its bounds.
 fn read_length(s: &[u8], i: usize, least: u64, most: u64) -> Unsigned
-    requires { ⌜ i < mostSegments ⌝ }
+    requires { ⌜ i < mostCounted ⌝ }
     ensures { λ r. ⌜ r ≡ unsignedIf (within least most (segmentLengthIn (now (s .entry)) i)) (segmentLengthIn (now (s .entry)) i) ⌝ }
 {
     let at = segment_at(i) + layout::LENGTH_AT;
@@ -282,25 +283,25 @@ fn read_length(s: &[u8], i: usize, least: u64, most: u64) -> Unsigned
 
 // The tangent modulus of a segment.
 fn read_tangent(s: &[u8], i: usize) -> u64
-    requires { ⌜ i < mostSegments ⌝ }
+    requires { ⌜ i < mostCounted ⌝ }
     ensures { λ r. ⌜ r ≡ segmentTangentIn (now (s .entry)) i ⌝ }
 {
     let at = segment_at(i) + layout::TANGENT_AT;
     bits::read(s, at, layout::TANGENT_WIDTH)
 }
 
-fn no_segments() -> [Segment; 7]
-    ensures { λ r. ⌜ r ≡ sevenPlaces [] ⌝ }
+fn no_segments() -> [Segment; curve::MOST_SEGMENTS]
+    ensures { λ r. ⌜ r ≡ allPlaces [] ⌝ }
 {
     [Segment {
         length: Length(0),
         tangent: Modulus(0),
-    }; 7]
+    }; curve::MOST_SEGMENTS]
 }
 
 // The segments of a side: `count` of them, from segment `first` of the sheet on.
 fn read_segments(s: &[u8], first: usize, count: usize) -> SegmentsRead
-    requires { ⌜ (first ≤ 7) × (count ≤ 7) ⌝ }
+    requires { ⌜ (first ≤ mostSegments) × (count ≤ mostSegments) ⌝ }
     ensures { λ r. ⌜ r ≡ segmentsRead (now (s .entry)) first count ⌝ }
 {
     let mut segments = no_segments();
@@ -329,7 +330,7 @@ fn read_segments(s: &[u8], first: usize, count: usize) -> SegmentsRead
 
 // Whether each tangent of a side is below Young's modulus and not above the one before it.
 fn tangents_right(s: &[u8], first: usize, count: usize, modulus: Modulus) -> bool
-    requires { ⌜ (first ≤ 7) × (count ≤ 7) × (modulus .0 ≡ modulusIn (now s)) ⌝ }
+    requires { ⌜ (first ≤ mostSegments) × (count ≤ mostSegments) × (modulus .0 ≡ modulusIn (now s)) ⌝ }
     ensures { λ r. ⌜ r ≡ tangentsRight (now (s .entry)) first count ⌝ }
 {
     let most = modulus.0;
@@ -372,7 +373,7 @@ fn refused(verdict: Verdict) -> SheetRead
 }
 
 // A sheet whose header and segments were read.
-fn accepted(header: Header, tension: [Segment; 7], compression: [Segment; 7]) -> SheetRead
+fn accepted(header: Header, tension: [Segment; curve::MOST_SEGMENTS], compression: [Segment; curve::MOST_SEGMENTS]) -> SheetRead
     ensures { λ r. ⌜ r ≡ acceptedAs header tension compression ⌝ }
 {
     let counts = header.counts;

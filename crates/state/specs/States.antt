@@ -8,8 +8,8 @@ use lib.ListN.{length, replicate}
 use Rattle.refusals.specs.Table.{Refusal, refusal, Answer, passes, refused}
 use Rattle.law.specs.Laws.{lawOf, numberOf}
 use Rattle.units.specs.Kinds.{nano, tenths, grain}
-use Rattle.bits.specs.Field.{bitsOf, Held, flag}
-use Rattle.bits.specs.Layout.{fieldAt, wholeAt, filled, packed, bytesOf}
+use Rattle.bits.specs.Field.{Held, flag}
+use Rattle.bits.specs.Layout.{widthAt, fieldAt, wholeAt, bitsAt, filled, packed, bytesOf}
 use Rattle.rod.specs.declared.Rod.{Rod}
 use Rattle.state.specs.declared.StateRead.{StateRead}
 use Rattle.state.specs.declared.StateRead.the-variants.{Accepted, WrongLength, OutOfRange}
@@ -61,24 +61,24 @@ stateValues r =
     numberOf (r .law)
     ∷ flag (r .yielded)
     ∷ 0
-    ∷ bitsOf 32 (r .strain .0)
-    ∷ bitsOf 16 (r .temperature .0)
-    ∷ bitsOf 48 (r .stress .0)
-    ∷ bitsOf 64 (r .first .0)
-    ∷ bitsOf 64 (r .second .0)
+    ∷ bitsAt stateLayout 3 (r .strain .0)
+    ∷ bitsAt stateLayout 4 (r .temperature .0)
+    ∷ bitsAt stateLayout 5 (r .stress .0)
+    ∷ bitsAt stateLayout 6 (r .first .0)
+    ∷ bitsAt stateLayout 7 (r .second .0)
     ∷ r .pairs
     ∷ r .«yielded_pairs»
     ∷ []
 
 -- SPEC 3.17: each number of a rod fits its field.
 pub record StateFits (r : Rod) : Type 0 where
-  pub strain : Held 32 (r .strain .0)
-  pub temperature : Held 16 (r .temperature .0)
-  pub stress : Held 48 (r .stress .0)
-  pub first : Held 64 (r .first .0)
-  pub second : Held 64 (r .second .0)
-  pub pairs : r .pairs < 2 ^ 32
-  pub yielded-pairs : r .«yielded_pairs» < 2 ^ 32
+  pub strain : Held (widthAt stateLayout 3) (r .strain .0)
+  pub temperature : Held (widthAt stateLayout 4) (r .temperature .0)
+  pub stress : Held (widthAt stateLayout 5) (r .stress .0)
+  pub first : Held (widthAt stateLayout 6) (r .first .0)
+  pub second : Held (widthAt stateLayout 7) (r .second .0)
+  pub pairs : r .pairs < 2 ^ widthAt stateLayout 8
+  pub yielded-pairs : r .«yielded_pairs» < 2 ^ widthAt stateLayout 9
 
 -- SPEC 3.4, 3.11: the bytes of a rod.
 unfoldable pub stateBytes : Rod → List ℕ

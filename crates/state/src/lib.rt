@@ -1,5 +1,6 @@
 // A rod in bytes (SPEC 3.11): its reader and its writer.
 mod fields; // fields.rt: the readers of single fields
+mod layout; // layout.rt: where everything stands in the bytes
 
 use bits::Signed;
 use bits::Unsigned;
@@ -16,7 +17,7 @@ ghost use Rattle.state.specs.States.{stateFieldRefusals, stateReadMeanin
 ghost use Rattle.state.specs.States.{stateBytes, stateLayout, stateLength, stateValues, zeroState, StateFits};
 
 // Bytes of a state.
-pub const STATE_LENGTH: usize = 37;
+pub const STATE_LENGTH: usize = layout::STATE_LENGTH;
 
 // What reading a state answers.
 pub enum StateRead {
@@ -39,8 +40,8 @@ fn read_fields(s: &[u8]) -> StateRead
     ensures { λ r. ⌜ stateReadMeaning r ≡ firstOf (stateFieldRefusals (now (s .entry))) (stateOf (now (s .entry))) ⌝ }
 {
     let law = fields::law(s);
-    let yielded = bits::read(s, 2, 1) == 1;
-    let Unsigned::Value(_) = bits::read_unsigned(s, 3, 5, 0, 0) else {
+    let yielded = bits::read(s, layout::YIELDED_AT, layout::YIELDED_WIDTH) == 1;
+    let Unsigned::Value(_) = bits::read_unsigned(s, layout::ZERO_AT, layout::ZERO_WIDTH, 0, 0) else {
         return StateRead::OutOfRange;
     };
     let Signed::Value(strain) = fields::strain(s) else {
@@ -58,7 +59,7 @@ fn read_fields(s: &[u8]) -> StateRead
     let Signed::Value(second) = fields::second(s, law) else {
         return StateRead::OutOfRange;
     };
-    let pairs = bits::read(s, 232, 32);
+    let pairs = bits::read(s, layout::PAIRS_AT, layout::COUNT_WIDTH);
     let Unsigned::Value(yielded_pairs) = fields::yielded_pairs(s, yielded, pairs) else {
         return StateRead::OutOfRange;
     };

@@ -6,8 +6,8 @@ use Rattle.tie_rod.specs.declared.Reply.{Reply}
 use Rattle.tie_rod.specs.Calls.{Left, answerNumber, tangentTold}
 
 -- SPEC 9.10: number + 256 · place, for a run and a single pair.
-abbrev pub packed : Reply → ℕ
-packed r = r .number + 256 * r .place
+abbrev pub inOneNumber : Reply → ℕ
+inOneNumber r = r .number + 256 * r .place
 
 -- SPEC 9.10: what a call leaves, as C sees it: that number, the result buffer and the buffer for the new state.
 pub record Seen : Type 0 where
@@ -19,8 +19,8 @@ abbrev pub seen : (answer : ℕ) → (rows next : List ℕ) → Seen
 seen answer rows next = record { answer = answer; rows = rows; next = next }
 
 abbrev pub seenOf : Left → Seen
-seenOf l = seen (packed (l .reply)) (l .rows) (l .next)
+seenOf l = seen (inOneNumber (l .reply)) (l .rows) (l .next)
 
 -- SPEC 9.10: number + 256 · tangent, for a forecast.
-abbrev pub forecastPacked : Answer ℕ → ℕ
-forecastPacked a = answerNumber a + 256 * tangentTold a
+abbrev pub forecastInOneNumber : Answer ℕ → ℕ
+forecastInOneNumber a = answerNumber a + 256 * tangentTold a

@@ -3,15 +3,15 @@ use tie_rod::Reply;
 use tie_rod::entry;
 use tie_rod::entry::ForecastRead;
 ghost use mathlib.Core.Path.{_≡_};
-ghost use Prim.Native.Nat.{_≤_};
+ghost use Prim.Native.Nat.{_≤_, _<_};
 ghost use Rattle.ranges.specs.Ranges.{mostPairs};
 ghost use Rattle.tie_rod.specs.Calls.{answerNumber, call, callLeaves, forecastAnswer, run, single, unusedAnswer, unusedLeft};
-ghost use Rattle.tie_rod_c.specs.Answers.{forecastPacked, packed, seen, seenOf};
+ghost use Rattle.tie_rod_c.specs.Answers.{forecastInOneNumber, inOneNumber, seen, seenOf};
 
 // The answer of a call as one number.
 fn pack(reply: Reply) -> u64
-    requires { ⌜ (reply .number ≤ 12) × (reply .place ≤ mostPairs) ⌝ }
-    ensures { λ r. ⌜ r ≡ packed reply ⌝ }
+    requires { ⌜ (reply .number < 256) × (reply .place ≤ mostPairs) ⌝ }
+    ensures { λ r. ⌜ r ≡ inOneNumber reply ⌝ }
 {
     let place = reply.place as u64;
     reply.number + 256 * place
@@ -48,7 +48,7 @@ pub extern "C" fn tie_rod_pair(
 // The tangent modulus that a state forecasts (SPEC 9.8).
 #[no_mangle]
 pub extern "C" fn tie_rod_forecast(sheet: &[u8], state: &[u8]) -> u64
-    ensures { λ r. ⌜ r ≡ forecastPacked (forecastAnswer (now (sheet .entry)) (now (state .entry))) ⌝ }
+    ensures { λ r. ⌜ r ≡ forecastInOneNumber (forecastAnswer (now (sheet .entry)) (now (state .entry))) ⌝ }
 {
     match entry::forecast(sheet, state) {
         ForecastRead::Tangent(tangent) => 256 * tangent.0,

@@ -206,20 +206,6 @@ impl Magnitude {
     }
 }
 
-impl Modulus {
-    pub fn at_most(self, other: Modulus) -> bool
-        ensures { λ r. ⌜ r ≡ leb (self .0) (other .0) ⌝ }
-    {
-        self.0 <= other.0
-    }
-
-    pub fn below(self, other: Modulus) -> bool
-        ensures { λ r. ⌜ r ≡ ltb (self .0) (other .0) ⌝ }
-    {
-        self.0 < other.0
-    }
-}
-
 // The magnitude of a whole number. -1 - a is in range for the least number of 64 bits too.
 fn size(a: i64) -> u64
     ensures { λ r. ⌜ r ≡ natAbs a ⌝ }

@@ -8,7 +8,7 @@ use lib.ListN.{length}
 use Rattle.ranges.specs.Ranges.{mostLength}
 use Rattle.bits.specs.Field.{within, unsignedIf}
 use Rattle.bits.proofs.RangeLaws.{unsigned-if-out, unsigned-if-in}
-use Rattle.sheet.specs.Sheets.{segmentLengthIn, lengthRight, lengthsRight, allBelow, segmentsIn, sevenPlaces}
+use Rattle.sheet.specs.Sheets.{segmentLengthIn, lengthRight, lengthsRight, allBelow, segmentsIn, allPlaces}
 use Rattle.sheet.specs.ReaderAnswers.{leastLength, segmentsRead}
 use Rattle.sheet.proofs.SheetLaws.{least-length-small, length-bounds, all-below-more, all-below-stops, places-more}
 use Rattle.sheet.proofs.read_segments.Statement.{statement}
@@ -16,7 +16,7 @@ use Rattle.sheet.proofs.read_segments.Tie as tie
 
 abbrev Inv-loop : tie.InvT-loop
 Inv-loop s first count segments₀ i₀ segments i =
-    (i ≤ count) × (allBelow (lengthRight s first count) i ≡ true) × (segments ≡ sevenPlaces (segmentsIn s first i))
+    (i ≤ count) × (allBelow (lengthRight s first count) i ≡ true) × (segments ≡ allPlaces (segmentsIn s first i))
 
 abbrev μ-loop : tie.MeasureT-loop
 μ-loop s first count segments₀ i₀ segments i = count - i

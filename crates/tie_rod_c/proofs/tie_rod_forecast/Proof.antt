@@ -4,7 +4,7 @@ use native.Mathlib.Omega.{arith}
 use Rattle.refusals.specs.Table.{passes}
 use Rattle.tie_rod.specs.Calls.{forecastAnswer}
 use Rattle.tie_rod.specs.Answers.{forecastMeaning}
-use Rattle.tie_rod_c.specs.Answers.{forecastPacked}
+use Rattle.tie_rod_c.specs.Answers.{forecastInOneNumber}
 use Rattle.tie_rod_c.proofs.Bounds.{forecast-small}
 use Rattle.tie_rod_c.proofs.tie_rod_forecast.Statement.{statement}
 use Rattle.tie_rod_c.proofs.tie_rod_forecast.Tie as tie
@@ -24,11 +24,11 @@ mul-result c =
     record { fits = omega (arith, forecast-small (a .sheet .now) (a .state .now) (told c)) }
 
 returns : tie.Need-returns
-returns c = omega (arith, ap forecastPacked (told c))
+returns c = omega (arith, ap forecastInOneNumber (told c))
 
 returns-2 : tie.Need-returns-2
 returns-2 c =
-    omega (arith, ap forecastPacked (sym (ap forecastMeaning (c .before .number .given .1)) ∙ c .before .before .before .forecast .ensures))
+    omega (arith, ap forecastInOneNumber (sym (ap forecastMeaning (c .before .number .given .1)) ∙ c .before .before .before .forecast .ensures))
 
 pub tie-rod-forecast-spec : {M : Type 1} → statement M
 tie-rod-forecast-spec = tie.close (tie.spec (λ c κs. search needs) (λ c. search needs) mul-result (λ c. search needs) returns returns-2)

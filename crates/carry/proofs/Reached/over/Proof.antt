@@ -3,8 +3,7 @@ use mathlib.Core.Path.{_≡_, sym, ap, _∙_}
 use Rattle.refusals.specs.Table.{passes, refused, firstOf}
 use Rattle.rod.specs.Steps.{stepMeaning, stepRefusals, advanceOf}
 use Rattle.carry.specs.declared.Reached.{Reached}
-use Rattle.carry.specs.declared.Tried.the-variants.{Accepted, Refused}
-use Rattle.carry.specs.Reaching.{triedBy}
+use Rattle.carry.specs.Reaching.{withLimits}
 use Rattle.carry.proofs.ReachedLaws.{limits-stand, reached-next}
 use borrow.Author.Needs.{needs}
 use Rattle.carry.proofs.Reached.over.Statement.{statement}
@@ -21,13 +20,13 @@ returns c =
     let a = advance .advance .given .0 .0 in
     let answer : firstOf (stepRefusals (start .args .sheet) (start .args .self .rod) (start .args .pair)) (advanceOf (start .args .sheet) (start .args .self .rod) (start .args .pair)) ≡ passes a =
     sym (step .step .ensures) ∙ ap stepMeaning (advance .advance .given .1) in
-    ap (λ (to : Reached). Accepted (record { to = to; row = a .row })) (reached-next (start .args .pair) (start .pre .0) answer (c .after .ensures))
-    ∙ ap (triedBy (start .args .sheet)) (sym answer)
+    ap (λ (to : Reached). passes (record { to = to; row = a .row })) (reached-next (start .args .pair) (start .pre .0) answer (c .after .ensures))
+    ∙ ap (withLimits (start .args .sheet)) (sym answer)
 
 -- a refusal of the step
 refused-as : (c : tie.After-step) {n : ℕ} → stepMeaning (c .step .result) ≡ refused n → let a = c .before .before .before .args in
-    Refused n ≡ triedBy (a .sheet) (firstOf (stepRefusals (a .sheet) (a .self .rod) (a .pair)) (advanceOf (a .sheet) (a .self .rod) (a .pair)))
-refused-as c e = ap (triedBy (c .before .before .before .args .sheet)) (sym e ∙ c .step .ensures)
+    refused n ≡ withLimits (a .sheet) (firstOf (stepRefusals (a .sheet) (a .self .rod) (a .pair)) (advanceOf (a .sheet) (a .self .rod) (a .pair)))
+refused-as c e = ap (withLimits (c .before .before .before .args .sheet)) (sym e ∙ c .step .ensures)
 
 returns-2 : tie.Need-returns-2
 returns-2 c = refused-as (c .before .before) (ap stepMeaning (c .enum-told .given .1))

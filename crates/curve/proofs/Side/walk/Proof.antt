@@ -85,8 +85,10 @@ plus-requires-3 c κs = let inv = c .before .before .loop .inv in omega (arith, 
 
 reading-requires-2 : tie.Need-reading-requires-2 Inv-loop μ-loop
 reading-requires-2 c κs =
-    let inv = c .before .before .before .loop .inv in
-    ((inv .readable .modulus-positive, inv .readable .tangents-fit _ (omega (arith, inv .readable .count-positive)), inv .readable .modulus-fits), rw (c .plus3 .ensures) (omega (arith, inv .word, inv .room)))
+    let loop = c .before .before .before in
+    let inv = loop .loop .inv in
+    let fit = inv .readable .tangents-fit (loop .before .before .before .args .t1 .count - 1) (omega (arith, inv .readable .count-positive)) in
+    ((omega (arith, inv .readable .modulus-positive), omega (arith, fit, inv .readable .modulus-fits), omega (arith, inv .readable .modulus-fits)), rw (c .plus3 .ensures) (omega (arith, inv .word, inv .room)))
 
 at-last : (c : tie.After-loop Inv-loop μ-loop) → c .before .before .before .before .args .t1 .count - 1 ≡ c .before .loop .i
 at-last c = omega (arith, c .before .loop .inv .index)
