@@ -1,8 +1,9 @@
 #!/bin/sh
-# The evidence beside the proofs: holds the papers to the tree, builds the archive, looks at what it exports
-# and needs, runs the C programs and the log program on every sample log, and
-# holds the archive against document 01's rules over fractions. Few lines where
-# all is well; otherwise what failed, and another exit status than 0.
+# The evidence beside the proofs: holds the papers to the tree, builds the
+# archive, looks at what it exports and needs, runs the C programs and the log
+# program on every sample log, and holds the archive against document 01's
+# rules over fractions. Few lines where all is well; otherwise what failed, and
+# another exit status than 0.
 set -eu
 cd "$(dirname "$0")/.."
 

@@ -373,7 +373,11 @@ fn refused(verdict: Verdict) -> SheetRead
 }
 
 // A sheet whose header and segments were read.
-fn accepted(header: Header, tension: [Segment; curve::MOST_SEGMENTS], compression: [Segment; curve::MOST_SEGMENTS]) -> SheetRead
+fn accepted(
+    header: Header,
+    tension: [Segment; curve::MOST_SEGMENTS],
+    compression: [Segment; curve::MOST_SEGMENTS],
+) -> SheetRead
     ensures { λ r. ⌜ r ≡ acceptedAs header tension compression ⌝ }
 {
     let counts = header.counts;

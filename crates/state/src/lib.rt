@@ -41,7 +41,8 @@ fn read_fields(s: &[u8]) -> StateRead
 {
     let law = fields::law(s);
     let yielded = bits::read(s, layout::YIELDED_AT, layout::YIELDED_WIDTH) == 1;
-    let Unsigned::Value(_) = bits::read_unsigned(s, layout::ZERO_AT, layout::ZERO_WIDTH, 0, 0) else {
+    let Unsigned::Value(_) = bits::read_unsigned(s, layout::ZERO_AT, layout::ZERO_WIDTH, 0, 0)
+    else {
         return StateRead::OutOfRange;
     };
     let Signed::Value(strain) = fields::strain(s) else {
