@@ -1,6 +1,6 @@
--- Lists of calls as a fold over situations, and demand 3 as one claim over a whole list (SPEC 11.1 to 11.13), cited by proofs/Demands;
--- definitions only, over what a call leaves and never over the program, nothing is assumed.
-use Prim.Native.Nat.{ℕ, suc, _-_, _*_, _≤_, _<_}
+-- Lists of calls as a fold over situations, and demand 3 as one claim over a whole list (SPEC 11.1 to 11.6, 11.8 to 11.11, 11.13), cited by
+-- proofs/Demands; definitions only, over what a call leaves and never over the program, nothing is assumed.
+use Prim.Native.Nat.{ℕ, _-_, _*_, _≤_, _<_}
 use mathlib.Core.Path.{_≡_}
 use mathlib.Core.Bool.{true, cond}
 use mathlib.Core.List.{List, [], _∷_, _++_, map}

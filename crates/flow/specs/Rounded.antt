@@ -23,8 +23,8 @@ pub record IsotropicRounded (side : Side) (trial : ℤ) (A : ℕ) (q B : Frac) (
   pub grown : accumulated side (whole (pos A)) <F accumulated side B → (R : ℕ) × LimitRounded side stored R × (stress ≡ signed trial (pos R))
   pub still : accumulated side B ≤F accumulated side (whole (pos A)) → q ≈F whole stress
 
--- SPEC 7.3, 7.5, kinematic, for the candidate (q, X′, growth): the stored centre goes the candidate's way, rounded down to whole grains,
--- and the stress is one radius ahead of it; where nothing grew both are the candidate's own.
+-- SPEC 7.3, 7.5, kinematic, for the candidate (q, X′, growth): the stored centre moves toward the trial by as much as the
+-- candidate's moved, rounded down to whole grains, and the stress is one radius ahead of it; where nothing grew both are the candidate's own.
 pub record KinematicRounded (yield : ℕ) (trial X : ℤ) (q X′ growth : Frac) (stress stored : ℤ) : Type 0 where
   pub grown : whole (pos 0) <F growth
       → (move : ℕ) × Floor (absF (X′ -F whole X)) (pos move) × (stored ≡ X +ℤ signed (trial -ℤ X) (pos move))

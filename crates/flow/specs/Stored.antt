@@ -1,5 +1,6 @@
--- What a pair leaves stored, law by law, as it is computed from whole numbers (SPEC 7.11), cited by response; definitions only, nothing is
--- assumed. `limit` reads T rounded down at a whole abscissa; proofs/*Rounding show that the numbers are the roundings of SPEC 7.2 to 7.5.
+-- What a pair leaves stored, law by law, as it is computed from whole numbers (SPEC 7.11), cited by response, and for law 3 by its theorems;
+-- definitions only, nothing is assumed. `limit` reads T rounded down at a whole abscissa; proofs/*Rounding show that the numbers are the
+-- roundings of SPEC 7.2 to 7.5.
 use mathlib.Core.Bool.{Bool, true, false, cond}
 use Prim.Native.Nat.{ℕ, suc, _+_, _-_, _*_, _/_}
 use lib.Dec.{leb}

@@ -1,4 +1,4 @@
-// Judging a sheet and a state (SPEC 8.9): refusals 1 to 6, or the rod that passed.
+// Judging a sheet and a state (SPEC 8.9): the number of the sheet's verdict, and then 4 to 6 or the rod that passed.
 use carry::Reached;
 use law::Law;
 use response::Limits;

@@ -1,5 +1,5 @@
--- The four laws (SPEC 1.3), their numbers and what variables each has, cited by sheet, response, rod and state; definitions only, nothing
--- is assumed.
+-- The four laws (SPEC 1.3), their numbers and what variables each has, cited by sheet, response, rod, state and accuracy; definitions only,
+-- nothing is assumed.
 use Prim.Native.Nat.{ℕ}
 use mathlib.Core.Bool.{Bool, true, false, cond}
 use lib.Dec.{eqb}

@@ -8,7 +8,7 @@ use borrow.Author.Tests.{lt-ltb, le-ltb}
 use lib.IntN.{ℤ, pos, negsuc, natAbs}
 use Rattle.units.specs.Signs.{isNeg}
 use Rattle.io.specs.Digits.{glyph, digits, Fewest}
-use Rattle.log.specs.Texts.{ascii, digit, digitsWithin, numeral, whole}
+use Rattle.log.specs.Texts.{ascii, digit, digitsWithin, numeral, signedNumeral}
 
 power-above : (k : ℕ) → k < 10 ^ k
 power-above zero = omega arith
@@ -42,12 +42,12 @@ fewest-is (suc k) n f =
     fewest-within (suc n) k n (omega (arith, few k n above)) (f .1) above
 
 -- A whole number by its sign and its magnitude.
-pub whole-below : (z : ℤ) (after : List ℕ) → isNeg z ≡ true → whole z ++ after ≡ ascii "-" ++ (numeral (natAbs z) ++ after)
-unfolding whole
+pub whole-below : (z : ℤ) (after : List ℕ) → isNeg z ≡ true → signedNumeral z ++ after ≡ ascii "-" ++ (numeral (natAbs z) ++ after)
+unfolding signedNumeral
 whole-below (pos n) after e = absurd (false≢true e)
 whole-below (negsuc n) after e = refl
 
-pub whole-not-below : (z : ℤ) (after : List ℕ) → isNeg z ≡ false → whole z ++ after ≡ numeral (natAbs z) ++ after
-unfolding whole
+pub whole-not-below : (z : ℤ) (after : List ℕ) → isNeg z ≡ false → signedNumeral z ++ after ≡ numeral (natAbs z) ++ after
+unfolding signedNumeral
 whole-not-below (pos n) after e = refl
 whole-not-below (negsuc n) after e = absurd (false≢true (sym e))

@@ -25,7 +25,7 @@ use Rattle.tie_rod.specs.Calls as calls
 use Rattle.state.specs.States as states
 use Rattle.rod.specs.InRange as rods
 use Rattle.log.specs.Lines.{lineOf, linesFrom, linesOf, lastLine}
-use Rattle.log.specs.Texts.{ascii, digitsWithin, numeral, whole}
+use Rattle.log.specs.Texts.{ascii, digitsWithin, numeral, signedNumeral}
 use Rattle.log.specs.Logs.{logRefusals, toldBy, toldOf, textOf}
 
 -- The sheet, the state and the two pairs.
@@ -40,5 +40,5 @@ pairs = 0 ∷ 22 ∷ 227 ∷ 96 ∷ 0 ∷ 200 ∷ 31 ∷ 210 ∷ 57 ∷ 64 ∷ 0
 
 pub third-row : textOf (sheet ++ state ++ pairs)
     ≡ ascii "pair stress plastic tangent yielded\n1 201000000000 99000000000 2000 1\n2 -202980000000 -97020000000 2000 1\nend 2\n"
-unfolding textOf toldOf toldBy logRefusals linesOf linesFrom lineOf lastLine numeral digitsWithin whole firstOf field twos bitsOf widths packed bytesOf lawOf rise height limitAt segmentsOf curveOf pieces tangentIn tangentAt allBelow lengthWrong sheetCountsRight constantsRight yieldsRight headerRight lengthsRight tangentsRight sheetFieldRefusals sheetRefusals segmentsIn allPlaces sheetOf thermalOf inRange pairRefusals listRefusals rowBytes isotropicStored sideStored isotropicMoved outcomeUnder againstRefusals belongs isotropicBelongs withinLimit stateRefusals trialOf advanceOf strainLeaves leavesRange stepRefusals standingRefusals pairTable pairAnswer walk rowsBytes calls.pieces states.stateFieldRefusals rods.inRange
+unfolding textOf toldOf toldBy logRefusals linesOf linesFrom lineOf lastLine numeral digitsWithin signedNumeral firstOf field twos bitsOf widths packed bytesOf lawOf rise height limitAt segmentsOf curveOf pieces tangentIn tangentAt allBelow lengthWrong sheetCountsRight constantsRight yieldsRight headerRight lengthsRight tangentsRight sheetFieldRefusals sheetRefusals segmentsIn allPlaces sheetOf thermalOf inRange pairRefusals listRefusals rowBytes isotropicStored sideStored isotropicMoved outcomeUnder againstRefusals belongs isotropicBelongs withinLimit stateRefusals trialOf advanceOf strainLeaves leavesRange stepRefusals standingRefusals pairTable pairAnswer walk rowsBytes calls.pieces states.stateFieldRefusals rods.inRange
 third-row = refl

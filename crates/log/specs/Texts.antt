@@ -26,7 +26,7 @@ abbrev pub digitsBy : (short : Bool) → ℕ → (tenth : ℕ → List ℕ) → 
 digitsBy true n tenth = digit n ∷ []
 digitsBy false n tenth = tenth (n / 10) ++ (digit (n % 10) ∷ [])
 
--- The digits of a number that has at most so many,
+-- SPEC 12.5: the digits of a number that has at most so many,
 unfoldable pub digitsWithin : (most n : ℕ) → List ℕ
 digitsWithin zero n = []
 digitsWithin (suc most) n = digitsBy (ltb n 10) n (digitsWithin most)
@@ -36,9 +36,9 @@ unfoldable pub numeral : ℕ → List ℕ
 numeral n = digitsWithin (suc n) n
 
 -- SPEC 12.5: a whole number: a minus sign below zero, and its magnitude; `negsuc n` is -(n + 1).
-unfoldable pub whole : ℤ → List ℕ
-whole (pos n) = numeral n
-whole (negsuc n) = ascii "-" ++ numeral (suc n)
+unfoldable pub signedNumeral : ℤ → List ℕ
+signedNumeral (pos n) = numeral n
+signedNumeral (negsuc n) = ascii "-" ++ numeral (suc n)
 
 -- SPEC 12.10: what appending a text at a place of a buffer leaves: the text there, every other byte as it was, and the place behind it.
 pub record Appended (text old : List ℕ) (at : ℕ) (new : List ℕ) (end : ℕ) : Type 0 where

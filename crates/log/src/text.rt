@@ -3,7 +3,7 @@ use units::Grain;
 ghost use Prim.Native.Nat.{_+_, _≤_};
 ghost use mathlib.Core.List.{_++_};
 ghost use lib.ListN.{length};
-ghost use Rattle.log.specs.Texts.{Appended, numeral, whole};
+ghost use Rattle.log.specs.Texts.{Appended, numeral, signedNumeral};
 
 pub(crate) fn append(out: &mut [u8], at: usize, text: &[u8]) -> usize
     requires { ⌜ at + length (now text) ≤ length (now out) ⌝ }
@@ -35,8 +35,8 @@ pub(crate) fn number(out: &mut [u8], at: usize, n: u64, after: &[u8]) -> usize
 
 // The same for a stress, with its sign.
 pub(crate) fn signed(out: &mut [u8], at: usize, stress: Grain, after: &[u8]) -> usize
-    requires { ⌜ at + length (whole (stress .0) ++ now after) ≤ length (now out) ⌝ }
-    ensures { λ r. ⌜ Appended (whole (stress .0) ++ now (after .entry)) (now (out .entry)) at (now (out .exit)) r ⌝ }
+    requires { ⌜ at + length (signedNumeral (stress .0) ++ now after) ≤ length (now out) ⌝ }
+    ensures { λ r. ⌜ Appended (signedNumeral (stress .0) ++ now (after .entry)) (now (out .entry)) at (now (out .exit)) r ⌝ }
 {
     let size = stress.magnitude();
     if stress.negative() {

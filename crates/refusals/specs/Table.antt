@@ -1,4 +1,4 @@
--- Tables of refusals, and which of their lines is answered (SPEC 8.1): every layout, step and call cites this file; definitions only,
+-- Tables of refusals, and which of their lines is answered (SPEC 8.1), cited wherever something can be refused; definitions only,
 -- nothing is assumed.
 use Prim.Native.Nat.{ℕ}
 use mathlib.Core.Path.{_≡_}
@@ -12,7 +12,7 @@ pub record Refusal : Type 0 where
   pub number : ℕ
   pub applies : Bool
 
--- Such a line, from its two parts.
+-- SPEC 8.1: such a line, from number and condition.
 abbrev pub refusal : ℕ → Bool → Refusal
 refusal number applies = record { number = number; applies = applies }
 
@@ -21,7 +21,7 @@ pub data Answer (A : Type 0) : Type 0 where
   passes : A → Answer A
   refused : ℕ → Answer A
 
--- SPEC 9.3: an answer told by its number, where 0 says that the value passes.
+-- SPEC 8.8: an answer told by its number, where 0 says that the value passes.
 abbrev pub numbered : {A : Type 0} → (number : ℕ) → A → Answer A
 numbered number value = cond (eqb number 0) (passes value) (refused number)
 

@@ -34,7 +34,8 @@ limitsUnder Asymmetric h first second =
 abbrev pub limitsOf : Sheet → (first second : ℤ) → Limits
 limitsOf h first second = limitsUnder (h .law) h first second
 
--- SPEC 7.12: after a pair that yields, the magnitude of the new stress is the limit of the side that flowed; the other limit stays.
+-- SPEC 7.12: after a pair that yields, the magnitude of the new stress is the limit of the side that flowed, and the other limit stays. Law
+-- 2 has none.
 abbrev pub limitsAfter : Law → (yielded : Bool) → (stress : ℤ) → Limits → Limits
 limitsAfter IsotropicLine yielded stress l = cond yielded (limits (magnitude (natAbs stress)) (l .second)) l
 limitsAfter IsotropicCurve yielded stress l = cond yielded (limits (magnitude (natAbs stress)) (l .second)) l

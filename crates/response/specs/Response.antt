@@ -1,6 +1,6 @@
 -- What a pair leaves under the law of a sheet (SPEC 7.6 to 7.8, 7.11), and what the law's answer stands for (SPEC 8.8), cited by rod,
--- accuracy and the demands; definitions only, nothing is assumed. The numbers are those of flow's `Stored`, and proofs/Laws shows that they
--- are the roundings of SPEC 7.2 to 7.5.
+-- accuracy and the demands; definitions only, nothing is assumed. One side and the centre are flow's `Stored`; law 3 is the isotropic
+-- law on one side. proofs/Laws shows that the numbers are the roundings of SPEC 7.2 to 7.5.
 use Prim.Native.Nat.{ℕ, _≤_}
 use mathlib.Core.Path.{_≡_}
 use mathlib.Core.Bool.{Bool, true, false, cond}
@@ -70,7 +70,7 @@ pub record Outcome : Type 0 where
   pub second : ℤ
   pub tangent : ℕ
 
--- SPEC 1.3: what moved is the first variable,
+-- SPEC 7.7: what moved is the first variable,
 abbrev pub inFirst : Moved → (second : ℤ) → Outcome
 inFirst m second =
     record { yielded = m .yielded; branch = m .branch; stress = m .stress; first = m .variable; second = second; tangent = m .tangent }
@@ -137,12 +137,12 @@ settledBy h first second trial Still =
 settledBy h first second trial (Tension f) =
     record { branch = branches.Tension; stress = f .stress; first = f .variable; second = second; tangent = f .tangent }
 settledBy h first second trial (Compression f) =
-    let moved = hasSecond (h .law) in
+    let both = hasSecond (h .law) in
     record {
       branch = branches.Compression;
       stress = f .stress;
-      first = cond moved first (f .variable);
-      second = cond moved (f .variable) second;
+      first = cond both first (f .variable);
+      second = cond both (f .variable) second;
       tangent = f .tangent;
     }
 
@@ -158,7 +158,7 @@ VariablesRight IsotropicCurve first second = AbscissaRight first
 VariablesRight Kinematic first second = natAbs first ≤ mostStress
 VariablesRight Asymmetric first second = AbscissaRight first × AbscissaRight second
 
--- SPEC 5.3: no trial stress from a state and a pair in their ranges is greater.
+-- SPEC 5.3: with a sheet that passes no trial stress from a state and a pair in their ranges is greater.
 abbrev pub mostTrial : ℕ
 mostTrial = 1000000000000000
 

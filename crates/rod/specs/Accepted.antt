@@ -11,7 +11,7 @@ use Rattle.rod.specs.declared.Rod.{Rod}
 use Rattle.rod.specs.InRange.{inRange}
 use Rattle.rod.specs.Against.{belongs}
 
--- SPEC 7.14: a sheet that passes 1 to 3, and a state in its ranges that 6 lets through, with n below 2 ^ 32.
+-- SPEC 7.14: what the laws use of a sheet that passes (SPEC 3.10), and a state in its ranges that 6 lets through, with n below 2 ^ 32.
 pub record Accepted (h : Sheet) (r : Rod) : Type 0 where
   pub sound : SheetSound h
   pub in-range : inRange r ≡ true

@@ -62,7 +62,7 @@ segmentTangentIn s i = fieldFrom (segmentAt i) segmentLayout s 1
 abbrev pub countedLength : List ℕ → ℕ
 countedLength s = sheetLength (tensionCount s + compressionCount s)
 
--- A test that holds for every number below n.
+-- SPEC 3.8: a test that holds for every number below n, such as each segment of a side.
 unfoldable pub allBelow : (ℕ → Bool) → ℕ → Bool
 allBelow test zero = true
 allBelow test (suc n) = allBelow test n && test n
@@ -120,7 +120,7 @@ lengthsRight s first count = allBelow (lengthRight s first count) count
 unfoldable pub tangentsRight : List ℕ → ℕ → ℕ → Bool
 tangentsRight s first count = allBelow (tangentRight s first) count
 
--- A test of a side, by its first segment and its count, that holds on both sides.
+-- SPEC 3.8: a test of a side, by its first segment and its count, that holds on both sides.
 abbrev pub bothSides : List ℕ → (ℕ → ℕ → Bool) → Bool
 bothSides s test = test 0 (tensionCount s) && test (tensionCount s) (compressionCount s)
 

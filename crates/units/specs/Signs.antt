@@ -1,4 +1,4 @@
--- Sign and magnitude of a whole number (SPEC 2.3, 2.4), cited by response, rod and the proofs of units; definitions only, nothing is
+-- Sign and magnitude of a whole number (SPEC 2.3, 2.4), cited by units, response, rod and what stands on them; definitions only, nothing is
 -- assumed. The magnitude is `natAbs` of lib.IntN.
 use Prim.Native.Nat.{ℕ}
 use mathlib.Core.Bool.{Bool, true, false}

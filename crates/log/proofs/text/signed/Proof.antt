@@ -4,7 +4,7 @@ use mathlib.Core.List.{_++_}
 use native.Mathlib.Omega.{arith}
 use lib.ListN.{length}
 use Rattle.units.specs.declared.Magnitude.{Magnitude}
-use Rattle.log.specs.Texts.{ascii, numeral, whole}
+use Rattle.log.specs.Texts.{ascii, numeral, signedNumeral}
 use Rattle.log.proofs.AppendLaws.{room-then, both}
 use Rattle.log.proofs.NumeralLaws.{whole-below, whole-not-below}
 use borrow.Author.Needs.{needs}
@@ -17,14 +17,14 @@ start c = c .before .before .before .before
 
 -- The text of a stress below zero, and of any other.
 below : (c : tie.Then1) → let a = start (c .before) .args in
-    whole (a .stress .0) ++ a .after .now ≡ ascii "-" ++ (numeral (c .before .before .magnitude .result .0) ++ a .after .now)
+    signedNumeral (a .stress .0) ++ a .after .now ≡ ascii "-" ++ (numeral (c .before .before .magnitude .result .0) ++ a .after .now)
 below c =
     let a = start (c .before) .args in
     whole-below (a .stress .0) (a .after .now) (sym (c .before .negative .ensures) ∙ c .if1 .taken)
     ∙ ap (λ (m : Magnitude). ascii "-" ++ (numeral (m .0) ++ a .after .now)) (sym (c .before .before .magnitude .ensures))
 
 not-below : (c : tie.Else1) → let a = start (c .before) .args in
-    whole (a .stress .0) ++ a .after .now ≡ numeral (c .before .before .magnitude .result .0) ++ a .after .now
+    signedNumeral (a .stress .0) ++ a .after .now ≡ numeral (c .before .before .magnitude .result .0) ++ a .after .now
 not-below c =
     let a = start (c .before) .args in
     whole-not-below (a .stress .0) (a .after .now) (sym (c .before .negative .ensures) ∙ c .if1 .left)
