@@ -1,7 +1,7 @@
 /*
  * A logger's firmware in small: carries a rod over two heats through the C
- * interface (SPEC 9.10) and prints what its card and its readers get. A refusal
- * never costs the card its state.
+ * interface (SPEC 9.10) and prints what its card and its readers get. After a
+ * refusal the card still has a good state.
  */
 #include "tie_rod.h"
 
@@ -133,8 +133,8 @@ static void print_refusal(uint64_t answer)
 /*
  * What a call leaves on the card (SPEC 9.3). On 0 and 8 to 11 the rod has moved
  * as far as its pairs were accepted, and that state is stored. On 1 to 6 `next`
- * is zero bytes, which would wipe the card, and on 7 and 12 the old state holds:
- * the card is left alone, and the refusal has been reported.
+ * is zero bytes, which are no state, and on 7 and 12 the old state holds: the
+ * card is left alone, and the refusal has been reported.
  */
 static void store(uint8_t *card, const uint8_t *next, uint64_t answer)
 {

@@ -92,7 +92,7 @@ enum tie_rod_numbers {
     /* For whoever wrote the sheet. */
     TIE_ROD_SHEET_LENGTH = 1,  /* below 14 bytes, or not 14 + 6 for each segment */
     TIE_ROD_SHEET_FIELD = 2,   /* a field isn't in its range, or a zero field isn't 0 */
-    TIE_ROD_SHEET_TANGENT = 3, /* a tangent not below E, or above the one before it */
+    TIE_ROD_SHEET_TANGENT = 3, /* a tangent not below E, or above the one before it on its side */
 
     /* For whoever keeps the state. */
     TIE_ROD_STATE_LENGTH = 4, /* not 37 bytes */
@@ -113,9 +113,10 @@ enum tie_rod_numbers {
     /* About the steel. */
     TIE_ROD_RANGE = 10,       /* the new stress, centre, abscissa or n wouldn't fit its
                                  range (SPEC 8.5) */
-    TIE_ROD_BOTH_LIMITS = 11, /* law 3: the trial lies beyond the limits of both sides; no
-                                 sheet and state that pass are known to meet it, and
-                                 that none can is not proved yet (SPEC 8.7) */
+    TIE_ROD_BOTH_LIMITS = 11, /* law 3: the trial lies beyond the limits of both sides. That
+                                 it is answered under this condition and no other is
+                                 proved; no sheet and state that pass are known to meet
+                                 it, and that none can is not proved yet (SPEC 8.7) */
 
     /* For the caller. */
     TIE_ROD_BUFFER = 12       /* rows below 16 bytes a pair, or next not 37 bytes */
@@ -140,8 +141,8 @@ enum tie_rod_numbers {
  * with no row, and `next` then holds the bytes of `state`.
  *
  * Whoever keeps the state on a card stores `next` on 0 and on 8 to 11 only, as
- * tie_rod_has_next says. On 1 to 6 its zeros would wipe the card: leave the card
- * alone and report the number. On 7 and 12 the old state holds, and a `next` of
+ * tie_rod_has_next says. On 1 to 6 its zeros would take the state off the card:
+ * leave the card alone and report the number. On 7 and 12 the old state holds, and a `next` of
  * another length holds whatever it held before the call.
  */
 uint64_t tie_rod_run(const uint8_t *sheet, size_t sheet_len,

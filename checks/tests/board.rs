@@ -94,7 +94,7 @@ fn curve() {
 }
 
 #[test]
-fn a_third_of_a_grain() {
+fn two_thirds_of_a_grain() {
     let sheet = sheet_bytes([0, 1, 0, 3, 1_200, 200, 1, 0, 0], &[[0, 1]]);
     assert_eq!(stresses(&sheet, &[333_334]), [(1_000_000, true)]);
     let sheet = rules::read_sheet(&sheet).unwrap();
