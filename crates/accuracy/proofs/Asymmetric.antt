@@ -13,7 +13,7 @@ use Rattle.fractions.proofs.Cases.{cond-cases}
 use Rattle.fractions.proofs.Arithmetic.{is-within, whole-neg, within-sym, within-same, within-weaken, within-add, within-neg}
 use Rattle.bits.specs.Field.{flag}
 use Rattle.flow.specs.Side.{Side, Hardens, Flattens}
-use Rattle.flow.specs.Solution.{AsymmetricSolved, flowed, asymmetric}
+use Rattle.flow.specs.Solution.{AsymmetricExactNumbers, flowed, asymmetric}
 use Rattle.flow.specs.Rounded.{LimitRounded}
 use Rattle.flow.specs.Stored.{SideStored, sideStored, asymmetricStored}
 use Rattle.flow.proofs.OneSide.{limit-positive}
@@ -77,7 +77,7 @@ exact-cases {tension} {compression} curve curve′ trial A B p p′ =
     (λ e′. inr (flows-down (leF-false _ _ e′))))
     (λ e. let h = leF-false _ _ e in inl (up-flows curve curve′ p p′ (positive-side (limit-positive curve p) h) h))
   where
-    case : AsymmetricSolved → Type 0
+    case : AsymmetricExactNumbers → Type 0
     case m = Exact tension compression trial A B (m .stress) (m .tension) (m .compression)
 
     rests-down : trial <F whole (pos 0) → negF trial ≤F compression .limit B → ExactDown tension compression trial A B trial A B
@@ -123,7 +123,7 @@ UpClose tension compression k stored B stress A′ B′ =
     × LimitClose compression (k + flag (stored .yielded)) B B′
 
 module _ {tension compression : Side} (curve : Hardens tension) (curve′ : Hardens compression) (flat : Flattens tension) {limit : ℕ → ℕ}
-    (floor : (a : ℕ) → LimitRounded tension a (limit a)) (m : ℕ) {A B k : ℕ} {trial exact-A exact-B stress A′ B′ : Frac}
+    (floor : (a : ℕ) → LimitRounded tension (pos a) (limit a)) (m : ℕ) {A B k : ℕ} {trial exact-A exact-B stress A′ B′ : Frac}
     (near : Within k (whole (pos m)) trial) (c : LimitClose tension k A exact-A) (c′ : LimitClose compression k B exact-B) where
   both-up : ExactUp tension compression trial exact-A exact-B stress A′ B′ → UpClose tension compression k (sideStored limit m A) B stress A′ B′
   both-up e =
@@ -185,7 +185,7 @@ module _ {tension compression : Side} (curve : Hardens tension) (curve′ : Hard
 
 module _ {tension compression : Side} (curve : Hardens tension) (curve′ : Hardens compression) (flat : Flattens tension)
     (flat′ : Flattens compression)
-    {limitT limitC : ℕ → ℕ} (floorT : (a : ℕ) → LimitRounded tension a (limitT a)) (floorC : (a : ℕ) → LimitRounded compression a (limitC a))
+    {limitT limitC : ℕ → ℕ} (floorT : (a : ℕ) → LimitRounded tension (pos a) (limitT a)) (floorC : (a : ℕ) → LimitRounded compression (pos a) (limitC a))
     {k A B : ℕ} {trial exact-A exact-B stress A′ B′ : Frac} (c : LimitClose tension k A exact-A) (c′ : LimitClose compression k B exact-B)
     (e : Exact tension compression trial exact-A exact-B stress A′ B′) where
   up-close : (m : ℕ) → Within k (whole (pos m)) trial → UpClose tension compression k (sideStored limitT m A) B stress A′ B′
@@ -209,7 +209,7 @@ module _ {tension compression : Side} (curve : Hardens tension) (curve′ : Hard
           (within-same stresses (≈F-refl (whole (pos (sideStored limitC m B .magnitude)))) (d .stress-negated), limits, limits′)
 
 pub asymmetric-stays-close : {tension compression : Side} → Hardens tension → Hardens compression → Flattens tension → Flattens compression
-    → {limitT limitC : ℕ → ℕ} → ((a : ℕ) → LimitRounded tension a (limitT a)) → ((a : ℕ) → LimitRounded compression a (limitC a))
+    → {limitT limitC : ℕ → ℕ} → ((a : ℕ) → LimitRounded tension (pos a) (limitT a)) → ((a : ℕ) → LimitRounded compression (pos a) (limitC a))
     → {k : ℕ} {stress : ℤ} {A B : ℕ} {exact-stress exact-A exact-B : Frac}
     → AsymmetricClose tension compression k stress A B exact-stress exact-A exact-B → (w : ℤ)
     → let stored = asymmetricStored limitT limitC (stress +ℤ w) A B in
@@ -223,7 +223,7 @@ asymmetric-stays-close {tension} {compression} curve curve′ flat flat′ {limi
     trial : Frac
     trial = exact-stress +F whole w
 
-    m : AsymmetricSolved
+    m : AsymmetricExactNumbers
     m = asymmetric tension compression trial exact-A exact-B
 
     e : Exact tension compression trial exact-A exact-B (m .stress) (m .tension) (m .compression)

@@ -18,6 +18,7 @@ use Rattle.curve.specs.Sides.{curveOf}
 use Rattle.sheet.specs.declared.Sheet.{Sheet}
 use Rattle.sheet.specs.Sound.{SheetSound}
 use Rattle.pair.specs.Pairs.{pairOf}
+use Rattle.response.specs.Candidates.{tensionSide, compressionSide}
 use Rattle.response.proofs.Branches.{not-negative}
 use Rattle.rod.specs.declared.Rod.{Rod}
 use Rattle.rod.specs.declared.step.Advance.{Advance}
@@ -32,7 +33,7 @@ use Rattle.rod.proofs.StepLaws.{same-law}
 use Rattle.rod.proofs.VariableLaws.{abscissa-facts}
 use Rattle.carry.specs.Walk.{lastRod, rowsOf, yieldedRows, History}
 use Rattle.carry.proofs.PairAnswers.{pair-passed}
-use Rattle.accuracy.specs.Bar.{Bar, unusedBar, exactPlastic, tensionSide, compressionSide, barStep, barFrom, barAfter}
+use Rattle.accuracy.specs.Bar.{Bar, unusedBar, exactPlastic, barStep, barFrom, barAfter}
 use Rattle.accuracy.specs.Within.{LastRowShows, WithinGrains, AtStop}
 use Rattle.accuracy.proofs.Close.{LimitClose}
 use Rattle.accuracy.proofs.BarSteps.{bar-solves}

@@ -12,7 +12,7 @@ use Rattle.fractions.proofs.Arithmetic.{whole-abs, whole-signed, within-sym, wi
 use Rattle.fractions.proofs.Signs.{signed-abs, abs-not-negative}
 use Rattle.bits.specs.Field.{flag}
 use Rattle.flow.specs.Side.{Side, Hardens, Flattens}
-use Rattle.flow.specs.Solution.{Solved, flowed, isotropic}
+use Rattle.flow.specs.Solution.{ExactNumbers, flowed, isotropic}
 use Rattle.flow.specs.Rounded.{LimitRounded}
 use Rattle.flow.specs.Stored.{SideStored, sideStored, isotropicStored}
 use Rattle.flow.proofs.OneSide.{limit-positive}
@@ -33,7 +33,7 @@ exact-move : {side : Side} → Hardens side → (trial a : Frac) → side .yield
     → ExactMove side trial a (isotropic side trial a .stress) (isotropic side trial a .variable)
 unfolding isotropic
 exact-move {side} curve trial a p =
-    cond-cases (λ (m : Solved). ExactMove side trial a (m .stress) (m .variable)) _ _ _
+    cond-cases (λ (m : ExactNumbers). ExactMove side trial a (m .stress) (m .variable)) _ _ _
     (λ e.
     record {
       magnitude = absF trial;
@@ -50,7 +50,7 @@ exact-move {side} curve trial a p =
       signed = ≈F-refl (signedF trial (side .limit (flowed side (absF trial) a)));
     })
 
-module _ {side : Side} (curve : Hardens side) (flat : Flattens side) {limit : ℕ → ℕ} (floor : (a : ℕ) → LimitRounded side a (limit a)) where
+module _ {side : Side} (curve : Hardens side) (flat : Flattens side) {limit : ℕ → ℕ} (floor : (a : ℕ) → LimitRounded side (pos a) (limit a)) where
   pub isotropic-stays-close : {k : ℕ} {stress : ℤ} {A : ℕ} {exact-stress exact-A : Frac}
       → IsotropicClose side k stress A exact-stress exact-A → (w : ℤ)
       → let stored = isotropicStored limit (stress +ℤ w) A in
@@ -71,7 +71,7 @@ module _ {side : Side} (curve : Hardens side) (flat : Flattens side) {limit : �
       g : ℕ
       g = flag (r .yielded)
 
-      b : Solved
+      b : ExactNumbers
       b = isotropic side exact-trial exact-A
 
       near : Within k (whole trial) exact-trial

@@ -10,7 +10,7 @@ use lib.Dec.{leb}
 use lib.IntN.{ℤ, pos, negsuc, negℤ, natAbs, _+ℤ_, _-ℤ_, negℤ-+ℤ, negℤ-negℤ}
 use Rattle.fractions.specs.Fraction.{Frac, _≤F_, _<F_, _≈F_, whole, _+F_, negF, _-F_, absF, signed, signedF, timesF, Within}
 use Rattle.fractions.specs.Rounding.{Floor}
-use Rattle.fractions.proofs.Parts.{up, dn, abs-parts, add-parts, sub-parts-ℤ}
+use Rattle.fractions.proofs.UpDown.{up, dn, abs-parts, add-parts, sub-parts-ℤ}
 use Rattle.fractions.proofs.Common.{is-same, is-whole, is-whole-one, is-add, is-neg, is-sub, is-abs, is-le, is-lt, is-eq, at-common}
 use Rattle.fractions.proofs.Comparison.{≤F-refl, ≤F-of-≈F, ≤F-trans, ≈F-refl, ≈F-sym, ≈F-trans, leF-true, leF-false}
 use Rattle.fractions.proofs.Cases.{cond-cases}
@@ -18,7 +18,7 @@ use Rattle.fractions.proofs.Arithmetic.{add-same, sub-same, times-same, times-n
 use Rattle.fractions.proofs.Signs.{sign-cases}
 use Rattle.fractions.proofs.Rounded.{is-floor, floor-same, floor-times}
 use Rattle.bits.specs.Field.{flag}
-use Rattle.flow.specs.Solution.{Solved, kinematic}
+use Rattle.flow.specs.Solution.{ExactNumbers, kinematic}
 use Rattle.flow.specs.Stored.{KinematicStored, kinematicStored}
 use Rattle.flow.proofs.Asymmetric.{negated-twice}
 use Rattle.accuracy.proofs.Close.{KinematicClose}
@@ -117,7 +117,7 @@ module _ {E t : ℕ} {h : 0 < E} {y : Frac} where
   exact-centre : (s x : Frac) → let m = kinematic E t h y s x in CentreMove E t h 0 y s x (m .stress) (m .variable)
   unfolding kinematic
   exact-centre s x =
-      cond-cases (λ (m : Solved). CentreMove E t h 0 y s x (m .stress) (m .variable)) _ _ _
+      cond-cases (λ (m : ExactNumbers). CentreMove E t h 0 y s x (m .stress) (m .variable)) _ _ _
       (λ e. inside (exact-inside (leF-true _ _ e)) (≈F-refl s) (≈F-refl x))
       (λ e. ⊎-elim (λ (u, sign). beyond true (upper (leF-false _ _ e) u sign)) (λ (u, sign). beyond false (lower (leF-false _ _ e) u sign))
       (sign-cases v))

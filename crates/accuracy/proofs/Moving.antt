@@ -42,7 +42,7 @@ exact-flows {side} curve {x} {a} p h =
     b : Frac
     b = flowed side x a
 
-module _ {side : Side} (curve : Hardens side) {limit : ℕ → ℕ} (floor : (a : ℕ) → LimitRounded side a (limit a)) (A m : ℕ)
+module _ {side : Side} (curve : Hardens side) {limit : ℕ → ℕ} (floor : (a : ℕ) → LimitRounded side (pos a) (limit a)) (A m : ℕ)
     (p : side .yield ≤F whole (pos A)) where
   stored-flows : (e : ℕ) → limit A + e ≡ m → 0 < e
       → Flows side 1 (whole (pos m)) (whole (pos A)) (whole (pos (limit (A + e)))) (whole (pos (A + e)))

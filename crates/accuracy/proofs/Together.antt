@@ -21,19 +21,21 @@ use Rattle.flow.specs.Side.{Flattens}
 use Rattle.flow.specs.Stored.{isotropicStored, asymmetricStored}
 use Rattle.flow.proofs.Curves.{curve-flattens, curve-rounded}
 use Rattle.response.specs.Response.{Outcome, isotropicMoved, kinematicMoved, asymmetricOutcome, outcomeUnder}
+use Rattle.response.specs.Candidates.{tensionSide, compressionSide}
 use Rattle.response.proofs.SoundSides.{sound-passes}
+use Rattle.response.proofs.Candidates.{tension-hardens, compression-hardens}
 use Rattle.rod.specs.declared.Rod.{Rod}
 use Rattle.rod.specs.declared.step.Advance.{Advance}
 use Rattle.rod.specs.Steps.{trialOf, rodAfter, advanceOf}
 use Rattle.state.specs.Passing.{StatePasses}
 use Rattle.carry.specs.Walk.{pairAnswer}
 use Rattle.carry.proofs.PairAnswers.{pair-passed, next-passes}
-use Rattle.accuracy.specs.Bar.{Bar, exactTrial, tensionSide, compressionSide, isotropicFed, kinematicFed, asymmetricFed, fedUnder, barStep}
+use Rattle.accuracy.specs.Bar.{Bar, exactTrial, isotropicFed, kinematicFed, asymmetricFed, fedUnder, barStep}
 use Rattle.accuracy.proofs.Close.{IsotropicClose, KinematicClose, AsymmetricClose}
 use Rattle.accuracy.proofs.Isotropic.{isotropic-stays-close}
 use Rattle.accuracy.proofs.Kinematic.{kinematic-stays-close}
 use Rattle.accuracy.proofs.Asymmetric.{asymmetric-stays-close}
-use Rattle.accuracy.proofs.BarSteps.{tension-hardens, compression-hardens, step-strain}
+use Rattle.accuracy.proofs.BarSteps.{step-strain}
 
 module _ (h : Sheet) (sound : SheetSound h) where
   abbrev E : ℕ

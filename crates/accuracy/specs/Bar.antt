@@ -1,18 +1,16 @@
--- The bar without rounding (SPEC 10.1 to 10.5), which demand 3 compares the stored rod with, cited by Only, Within and demands; definitions
+-- The bar without rounding (SPEC 10.1 to 10.5), which demand 3 compares the stored rod with, cited by Only and Within; definitions
 -- only, nothing is assumed. A sheet and pairs go in and nothing of the library; `sound` says that the sheet passes, so that E is above 0.
 use mathlib.Core.List.{List, [], _∷_}
 use lib.IntN.{ℤ, pos, _+ℤ_, _-ℤ_, _*ℤ_}
 use Rattle.fractions.specs.Fraction.{Frac, whole, _+F_, _-F_}
 use Rattle.law.specs.declared.Law.{Law}
 use Rattle.law.specs.declared.Law.the-variants.{IsotropicLine, IsotropicCurve, Kinematic, Asymmetric}
-use Rattle.curve.specs.Sides.{curveOf}
 use Rattle.sheet.specs.declared.Sheet.{Sheet}
 use Rattle.sheet.specs.Sound.{SheetSound, tangentOf}
 use Rattle.sheet.specs.Thermal.{thermalOf}
 use Rattle.pair.specs.declared.Pair.{Pair}
-use Rattle.flow.specs.Side.{Side}
-use Rattle.flow.specs.CurveSide.{sideOf}
-use Rattle.flow.specs.Solution.{Solved, isotropic, kinematic, asymmetric}
+use Rattle.flow.specs.Solution.{ExactNumbers, isotropic, kinematic, asymmetric}
+use Rattle.response.specs.Candidates.{radius, tensionSide, compressionSide}
 use Rattle.rod.specs.declared.Rod.{Rod}
 use Rattle.rod.specs.Unused.{unusedOf}
 use Rattle.rod.specs.Steps.{mechanicalOf}
@@ -58,25 +56,14 @@ fed b p stress first second =
     record { strain = b .strain +ℤ p .change .0; temperature = p .temperature .0; stress = stress; first = first; second = second }
 
 -- SPEC 10.4: a law without a second variable leaves it as it is.
-abbrev pub fedFirst : Bar → Pair → Solved → Bar
+abbrev pub fedFirst : Bar → Pair → ExactNumbers → Bar
 fedFirst b p m = fed b p (m .stress) (m .variable) (b .second)
 
--- SPEC 6.4: the radius of law 2 is the tension yield.
-abbrev pub radius : Sheet → Frac
-radius h = whole (pos (h .tension .«yield_stress» .0))
-
 module _ (h : Sheet) (sound : SheetSound h) where
-  -- SPEC 4.4: the sheet's two sides, T not rounded.
-  abbrev pub tensionSide : Side
-  tensionSide = sideOf (h .modulus .0) (sound .modulus-least) (curveOf (h .tension))
-
-  abbrev pub compressionSide : Side
-  compressionSide = sideOf (h .modulus .0) (sound .modulus-least) (curveOf (h .compression))
-
   -- SPEC 10.4: a pair under laws 0 and 1, under law 2 and under law 3, each by its closed form (flow/specs/Solution) from the bar's
   -- numbers, which also decide whether it flows.
   unfoldable pub isotropicFed : Bar → Pair → Bar
-  isotropicFed b p = fedFirst b p (isotropic tensionSide (exactTrial h b p) (b .first))
+  isotropicFed b p = fedFirst b p (isotropic (tensionSide h sound) (exactTrial h b p) (b .first))
 
   unfoldable pub kinematicFed : Bar → Pair → Bar
   kinematicFed b p =
@@ -84,7 +71,7 @@ module _ (h : Sheet) (sound : SheetSound h) where
 
   unfoldable pub asymmetricFed : Bar → Pair → Bar
   asymmetricFed b p =
-      let m = asymmetric tensionSide compressionSide (exactTrial h b p) (b .first) (b .second) in
+      let m = asymmetric (tensionSide h sound) (compressionSide h sound) (exactTrial h b p) (b .first) (b .second) in
       fed b p (m .stress) (m .tension) (m .compression)
 
   -- SPEC 10.4: one pair, under a law,

@@ -1,16 +1,14 @@
 -- That every step of the bar is the only one that meets its law's conditions (SPEC 10.6, 10.7), cited by Within at each stop; the
--- conditions are the records of crate flow, to which the stored rod is held too. Definitions only; nothing is assumed.
+-- conditions are those to which the stored rod is held (response/specs/Candidates). Definitions only; nothing is assumed.
 use mathlib.Core.Path.{_≡_}
 use mathlib.Core.List.{List, [], _∷_}
 use lib.IntN.{ℤ, pos, _+ℤ_}
 use Rattle.fractions.specs.Fraction.{Frac, _≈F_, whole, _-F_}
-use Rattle.law.specs.declared.Law.{Law}
-use Rattle.law.specs.declared.Law.the-variants.{IsotropicLine, IsotropicCurve, Kinematic, Asymmetric}
 use Rattle.sheet.specs.declared.Sheet.{Sheet}
-use Rattle.sheet.specs.Sound.{SheetSound, tangentOf}
+use Rattle.sheet.specs.Sound.{SheetSound}
 use Rattle.pair.specs.declared.Pair.{Pair}
-use Rattle.flow.specs.Conditions as conditions
-use Rattle.accuracy.specs.Bar.{Bar, unusedBar, exactTrial, exactPlastic, tensionSide, compressionSide, radius, barStep}
+use Rattle.response.specs.Candidates.{MeetsUnder}
+use Rattle.accuracy.specs.Bar.{Bar, unusedBar, exactTrial, exactPlastic, barStep}
 
 -- SPEC 10.6: two bars with the same numbers; fractions are the same by cross products, whatever their denominators.
 pub record SameBar (b c : Bar) : Type 0 where
@@ -21,25 +19,13 @@ pub record SameBar (b c : Bar) : Type 0 where
   pub second : b .second ≈F c .second
 
 module _ (h : Sheet) (sound : SheetSound h) where
-  -- SPEC 10.6: the bar c meets the law's conditions from the trial stress and the variables of b. Under law 2, E times p grows by some
-  -- fraction. A second variable that the law does not have stays as it is.
-  abbrev pub MeetsUnder : Law → (trial : Frac) → (b c : Bar) → Type 0
-  MeetsUnder IsotropicLine trial b c =
-      conditions.Isotropic (tensionSide h sound) trial (b .first) (c .stress) (c .first) × (c .second ≈F b .second)
-  MeetsUnder IsotropicCurve trial b c =
-      conditions.Isotropic (tensionSide h sound) trial (b .first) (c .stress) (c .first) × (c .second ≈F b .second)
-  MeetsUnder Kinematic trial b c =
-      ((growth : Frac) × conditions.Kinematic (h .modulus .0) (tangentOf (h .tension) 0)
-      (sound .tension .tangents-below 0 (sound .tension .count-least)) (radius h) trial (b .first) (c .stress) (c .first) growth)
-      × (c .second ≈F b .second)
-  MeetsUnder Asymmetric trial b c =
-      conditions.Asymmetric (tensionSide h sound) (compressionSide h sound) trial (b .first) (b .second) (c .stress) (c .first) (c .second)
-
-  -- SPEC 10.6: the bar c is a solution for the pair p from the bar b.
+  -- SPEC 10.6: the bar c is a solution for the pair p from the bar b: its numbers, with some growth of p, meet the law's conditions.
   pub record Solves (b : Bar) (p : Pair) (c : Bar) : Type 0 where
     pub strain : c .strain ≡ b .strain +ℤ p .change .0
     pub temperature : c .temperature ≡ p .temperature .0
-    pub law : MeetsUnder (h .law) (exactTrial h b p) b c
+    pub growth : Frac
+    pub law : MeetsUnder h sound (h .law) (exactTrial h b p) (b .first) (b .second)
+        (record { stress = c .stress; first = c .first; second = c .second; growth = growth })
 
   -- SPEC 10.6, 10.7: it is the only one, and E times plastic strain changes by what the conditions took from the trial stress.
   pub record OnlySolution (b : Bar) (p : Pair) (c : Bar) : Type 0 where

@@ -10,12 +10,12 @@ use Rattle.pair.specs.declared.Pair.{Pair}
 use Rattle.row.specs.declared.Row.{Row}
 use Rattle.sheet.specs.declared.Sheet.{Sheet}
 use Rattle.sheet.specs.Sound.{SheetSound}
-use Rattle.response.specs.Solved.{conditionsUnder}
+use Rattle.response.specs.Candidates.{tensionSide, compressionSide, Passes}
 use Rattle.rod.specs.declared.Rod.{Rod}
 use Rattle.law.specs.Laws.{firstIsAbscissa, hasSecond}
 use Rattle.rod.specs.Steps.{trialOf, plasticAt}
 use Rattle.carry.specs.Walk.{yieldedRows}
-use Rattle.accuracy.specs.Bar.{Bar, exactPlastic, tensionSide, compressionSide, barAfter}
+use Rattle.accuracy.specs.Bar.{Bar, exactPlastic, barAfter}
 use Rattle.accuracy.specs.Only.{BarSolves}
 
 -- SPEC 11.9: the last row, where there is one, shows the state's yielded bit, its stress and its E times plastic strain.
@@ -25,10 +25,9 @@ LastRowShows h (row ∷ []) r = (row .yielded ≡ r .yielded) × (row .stress �
 LastRowShows h (row ∷ (next ∷ rows)) r = LastRowShows h (next ∷ rows) r
 
 module _ (h : Sheet) (sound : SheetSound h) where
-  -- SPEC 6.6: the trial of a pair, from a stored state, passes a limit of the sheet's law. A trial at the limit doesn't, and law 2's limit
-  -- is its radius.
+  -- SPEC 6.6: the trial of a pair, from a stored state, passes a limit of the sheet's law.
   abbrev pub PassesLimit : Rod → Pair → Type 0
-  PassesLimit r p = conditionsUnder (h .law) h sound (r .first .0) (r .second .0) (trialOf h r p) .Passes
+  PassesLimit r p = Passes h sound (h .law) (whole (trialOf h r p)) (whole (r .first .0)) (whole (r .second .0))
 
   -- SPEC 11.8: each of these lies within k grains of the bar's; a line is asked where the law has its quantity. Of an abscissa it is the
   -- yield limit that is compared, without rounding on either side.

@@ -10,12 +10,12 @@ use Rattle.bits.specs.Field.{field, twos, bitsOf}
 use Rattle.bits.specs.Layout.{widths, packed, bytesOf}
 use Rattle.law.specs.Laws.{lawOf}
 use Rattle.curve.specs.Curve.{rise, height, limitAt, limitF}
-use Rattle.curve.specs.Tangent.{pieces, tangentIn, tangentAt}
+use Rattle.curve.specs.Tangent.{spans, tangentIn, tangentAt}
 use Rattle.curve.specs.Sides.{segmentsOf, curveOf}
 use Rattle.sheet.specs.Sheets.{allBelow, lengthWrong, sheetCountsRight, constantsRight, yieldsRight, headerRight, lengthsRight, tangentsRight, sheetFieldRefusals, sheetRefusals, segmentsIn, allPlaces, sheetOf}
 use Rattle.sheet.specs.Thermal.{thermalOf}
 use Rattle.sheet.specs.Bytes.{segmentsBytes, sheetBytes}
-use Rattle.pair.specs.Pairs.{inRange, pairOf, pairRefusals, pairBytes}
+use Rattle.pair.specs.Pairs.{pairInRange, pairOf, pairRefusals, pairBytes}
 use Rattle.flow.specs.CurveSide.{sideOf}
 use Rattle.flow.specs.Solution.{isotropic}
 use Rattle.flow.specs.Stored.{sideStored, isotropicStored, kinematicStored}
@@ -28,7 +28,7 @@ use Rattle.board.specs.Board.{Loop, board, softSteel, softPull, LoopRigh
 
 -- All nine rows.
 pub board-right : AllRight board
-unfolding board walk pairAnswer pairTable pairRefusals pairBytes inRange firstOf stepRefusals strainLeaves leavesRange advanceOf trialOf thermalOf unusedOf outcomeUnder isotropicMoved kinematicMoved asymmetricOutcome isotropicStored kinematicStored sideStored limitAt height rise tangentAt tangentIn pieces curveOf segmentsOf allPlaces withinLimit field twos bitsOf widths packed bytesOf lawOf allBelow lengthWrong sheetCountsRight constantsRight yieldsRight headerRight lengthsRight tangentsRight sheetFieldRefusals sheetRefusals segmentsIn sheetOf segmentsBytes sheetBytes
+unfolding board walk pairAnswer pairTable pairRefusals pairBytes pairInRange firstOf stepRefusals strainLeaves leavesRange advanceOf trialOf thermalOf unusedOf outcomeUnder isotropicMoved kinematicMoved asymmetricOutcome isotropicStored kinematicStored sideStored limitAt height rise tangentAt tangentIn spans curveOf segmentsOf allPlaces withinLimit field twos bitsOf widths packed bytesOf lawOf allBelow lengthWrong sheetCountsRight constantsRight yieldsRight headerRight lengthsRight tangentsRight sheetFieldRefusals sheetRefusals segmentsIn sheetOf segmentsBytes sheetBytes
 board-right =
     (record { sheet-passes = refl; pairs-pass = refl; rows-right = refl }, (record { sheet-passes = refl; pairs-pass = refl; rows-right = refl }, (record { sheet-passes = refl; pairs-pass = refl; rows-right = refl }, (record { sheet-passes = refl; pairs-pass = refl; rows-right = refl }, (record { sheet-passes = refl; pairs-pass = refl; rows-right = refl }, (record { sheet-passes = refl; pairs-pass = refl; rows-right = refl }, (record { sheet-passes = refl; pairs-pass = refl; rows-right = refl }, (record { sheet-passes = refl; pairs-pass = refl; rows-right = refl }, (record { sheet-passes = refl; pairs-pass = refl; rows-right = refl }, tt)))))))))
 

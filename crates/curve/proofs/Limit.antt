@@ -9,7 +9,7 @@ use native.Mathlib.Omega.{arith}
 use lib.IntN.{ℤ, pos, negsuc}
 use Rattle.fractions.specs.Fraction.{Frac, whole, _≤F_, _<F_, _≈F_, _-F_}
 use Rattle.fractions.specs.Rounding.{Floor}
-use Rattle.fractions.proofs.Parts.{up, dn, le-of-parts}
+use Rattle.fractions.proofs.UpDown.{up, dn, le-of-parts}
 use Rattle.fractions.proofs.Common.{Is, is-own, is-same, is-whole, is-whole-one, is-sub, is-scale, is-le, is-lt, is-eq, at-common}
 use Rattle.fractions.proofs.Comparison.{≤F-refl, ≤F-or-<F, <F-not-≤F, whole-le}
 use Rattle.fractions.proofs.Rounded.{floor-quotient}

@@ -10,7 +10,7 @@ use lib.Dec.{T, leb, leb→le}
 use mir.Facts.{and-yes}
 use borrow.Author.Tests.{lt-ltb, le-ltb, le-leb, lt-leb}
 use Rattle.curve.specs.Curve.{Segments, last, segment, rise}
-use Rattle.curve.specs.Tangent.{End, at, nowhere, Piece, before, holds, pieces, tangentIn}
+use Rattle.curve.specs.Tangent.{End, at, nowhere, Span, before, holds, spans, tangentIn}
 use Rattle.curve.proofs.Rise.{rise-last, rise-within, rise-beyond}
 
 module _ (start end t a : ℕ) where
@@ -21,70 +21,70 @@ module _ (start end t a : ℕ) where
   not-held-beyond h k = rw (le-leb start a (omega arith)) (le-ltb a end k)
 
 module _ (E start a : ℕ) where
-  pub tangent-last : (t : ℕ) → start ≤ a → tangentIn E (pieces E start (last t)) a ≡ t
-  unfolding pieces tangentIn
+  pub tangent-last : (t : ℕ) → start ≤ a → tangentIn E (spans E start (last t)) a ≡ t
+  unfolding spans tangentIn
   tangent-last t h = rw (le-leb start a h)
 
   module _ (length t : ℕ) (rest : Segments) where
-    pub tangent-within : start ≤ a → a < start + E * length → tangentIn E (pieces E start (segment length t rest)) a ≡ t
-    unfolding pieces tangentIn
+    pub tangent-within : start ≤ a → a < start + E * length → tangentIn E (spans E start (segment length t rest)) a ≡ t
+    unfolding spans tangentIn
     tangent-within h k = rw (held-within start (start + E * length) t a h k)
 
-    pub tangent-beyond : start + E * length ≤ a → tangentIn E (pieces E start (segment length t rest)) a ≡ tangentIn E (pieces E (start + E * length) rest) a
-    unfolding pieces tangentIn
+    pub tangent-beyond : start + E * length ≤ a → tangentIn E (spans E start (segment length t rest)) a ≡ tangentIn E (spans E (start + E * length) rest) a
+    unfolding spans tangentIn
     tangent-beyond h = rw (not-held-beyond start (start + E * length) t a (omega arith) h)
 
 -- Below its start none does.
-pub tangent-below : (E a : ℕ) (segments : Segments) (start : ℕ) → a < start → tangentIn E (pieces E start segments) a ≡ E
-unfolding pieces tangentIn
+pub tangent-below : (E a : ℕ) (segments : Segments) (start : ℕ) → a < start → tangentIn E (spans E start segments) a ≡ E
+unfolding spans tangentIn
 tangent-below E a (last t) start h = rw (lt-leb start a h)
 tangent-below E a (segment length t rest) start h = rw (lt-leb start a h) (tangent-below E a rest (start + E * length) (omega arith))
 
 -- ---- One segment and no other holds an abscissa that is not below the yield
 
-starts-from : (E start : ℕ) (segments : Segments) (p : Piece) → List·Memᴰ p (pieces E start segments) → start ≤ p .start
-unfolding pieces
-starts-from E start (last t) p m = ⊎-elim (λ is. omega (arith, ap (λ (q : Piece). q .start) is)) (λ none. absurd (List·Memᴰ·not-nil none)) (List·Memᴰ·cases-cons m)
+starts-from : (E start : ℕ) (segments : Segments) (p : Span) → List·Memᴰ p (spans E start segments) → start ≤ p .start
+unfolding spans
+starts-from E start (last t) p m = ⊎-elim (λ is. omega (arith, ap (λ (q : Span). q .start) is)) (λ none. absurd (List·Memᴰ·not-nil none)) (List·Memᴰ·cases-cons m)
 starts-from E start (segment length t rest) p m =
-    ⊎-elim (λ is. omega (arith, ap (λ (q : Piece). q .start) is)) (λ later. omega (arith, starts-from E (start + E * length) rest p later)) (List·Memᴰ·cases-cons m)
+    ⊎-elim (λ is. omega (arith, ap (λ (q : Span). q .start) is)) (λ later. omega (arith, starts-from E (start + E * length) rest p later)) (List·Memᴰ·cases-cons m)
 
-held-from : (p : Piece) (a : ℕ) → T (holds p a) → p .start ≤ a
+held-from : (p : Span) (a : ℕ) → T (holds p a) → p .start ≤ a
 held-from p a held = leb→le (p .start) a (and-yes (leb (p .start) a) (before a (p .end)) held .0)
 
 cond-yes : (b : Bool) (x y : ℕ) → T b → cond b x y ≡ x
 cond-yes true x y yes′ = refl
 cond-yes false x y yes′ = absurd yes′
 
-first-holds : (p q : Piece) (a otherwise : ℕ) → p ≡ q → T (holds p a) → cond (holds q a) (q .tangent) otherwise ≡ p .tangent
+first-holds : (p q : Span) (a otherwise : ℕ) → p ≡ q → T (holds p a) → cond (holds q a) (q .tangent) otherwise ≡ p .tangent
 first-holds p q a otherwise is held =
-    cond-yes (holds q a) (q .tangent) otherwise (subst (λ (q : Piece). T (holds q a)) is held) ∙ sym (ap (λ (q : Piece). q .tangent) is)
+    cond-yes (holds q a) (q .tangent) otherwise (subst (λ (q : Span). T (holds q a)) is held) ∙ sym (ap (λ (q : Span). q .tangent) is)
 
 -- The tangent is that of the segment with start ≤ abscissa < end, whichever that is ..
-pub tangent-of-holder : (E a start : ℕ) (segments : Segments) (p : Piece) → List·Memᴰ p (pieces E start segments) → T (holds p a) → tangentIn E (pieces E start segments) a ≡ p .tangent
-unfolding pieces tangentIn
+pub tangent-of-holder : (E a start : ℕ) (segments : Segments) (p : Span) → List·Memᴰ p (spans E start segments) → T (holds p a) → tangentIn E (spans E start segments) a ≡ p .tangent
+unfolding spans tangentIn
 tangent-of-holder E a start (last t) p m held =
     ⊎-elim (λ is. first-holds p (record { start = start; end = nowhere; tangent = t }) a E is held) (λ none. absurd (List·Memᴰ·not-nil none)) (List·Memᴰ·cases-cons m)
 tangent-of-holder E a start (segment length t rest) p m held =
     ⊎-elim
-    (λ is. first-holds p (record { start = start; end = at (start + E * length); tangent = t }) a (tangentIn E (pieces E (start + E * length) rest) a) is held)
+    (λ is. first-holds p (record { start = start; end = at (start + E * length); tangent = t }) a (tangentIn E (spans E (start + E * length) rest) a) is held)
     (λ later.
     let beyond : start + E * length ≤ a = omega (arith, starts-from E (start + E * length) rest p later, held-from p a held) in
     tangent-beyond E start a length t rest beyond ∙ tangent-of-holder E a (start + E * length) rest p later held)
     (List·Memᴰ·cases-cons m)
 
 -- .. and from the yield on there is one.
-pub holder-exists : (E a start : ℕ) (segments : Segments) → start ≤ a → (p : Piece) × List·Memᴰ p (pieces E start segments) × T (holds p a)
-unfolding pieces
+pub holder-exists : (E a start : ℕ) (segments : Segments) → start ≤ a → (p : Span) × List·Memᴰ p (spans E start segments) × T (holds p a)
+unfolding spans
 holder-exists E a start (last t) h =
     (record { start = start; end = nowhere; tangent = t }, List·Memᴰ·head refl, rw (le-leb start a h) tt)
 holder-exists E a start (segment length t rest) h =
     go (holder-exists E a (start + E * length) rest) (decLe (start + E * length) a)
   where
-    here : Piece
+    here : Span
     here = record { start = start; end = at (start + E * length); tangent = t }
 
-    go : (start + E * length ≤ a → (p : Piece) × List·Memᴰ p (pieces E (start + E * length) rest) × T (holds p a))
-        → Dec (start + E * length ≤ a) → (p : Piece) × List·Memᴰ p (here ∷ pieces E (start + E * length) rest) × T (holds p a)
+    go : (start + E * length ≤ a → (p : Span) × List·Memᴰ p (spans E (start + E * length) rest) × T (holds p a))
+        → Dec (start + E * length ≤ a) → (p : Span) × List·Memᴰ p (here ∷ spans E (start + E * length) rest) × T (holds p a)
     go later (yes beyond) = let (p, m, held) = later beyond in (p, List·Memᴰ·tail m, held)
     go later (no within) = (here, List·Memᴰ·head refl, rw (held-within start (start + E * length) t a h (omega arith)) tt)
 
@@ -102,17 +102,17 @@ slope-adds t start a b h k =
     rw parts (omega arith)
 
 -- Over a segment, from a to b, E times the rise is its tangent times b - a.
-pub tangent-is-slope : (E start : ℕ) (segments : Segments) (p : Piece) → List·Memᴰ p (pieces E start segments) → (a b : ℕ) → p .start ≤ a → a ≤ b → UpTo (p .end) b
+pub tangent-is-slope : (E start : ℕ) (segments : Segments) (p : Span) → List·Memᴰ p (spans E start segments) → (a b : ℕ) → p .start ≤ a → a ≤ b → UpTo (p .end) b
     → rise E segments (b - start) ≡ rise E segments (a - start) + p .tangent * (b - a)
-unfolding pieces
+unfolding spans
 tangent-is-slope E start (last t) p m a b from h to =
-    ⊎-elim (λ is. subst (λ (q : Piece). q .start ≤ a → rise E (last t) (b - start) ≡ rise E (last t) (a - start) + q .tangent * (b - a)) (sym is) here from) (λ none. absurd (List·Memᴰ·not-nil none)) (List·Memᴰ·cases-cons m)
+    ⊎-elim (λ is. subst (λ (q : Span). q .start ≤ a → rise E (last t) (b - start) ≡ rise E (last t) (a - start) + q .tangent * (b - a)) (sym is) here from) (λ none. absurd (List·Memᴰ·not-nil none)) (List·Memᴰ·cases-cons m)
   where
     here : start ≤ a → rise E (last t) (b - start) ≡ rise E (last t) (a - start) + t * (b - a)
     here from′ = rw (rise-last E t (b - start), rise-last E t (a - start)) (slope-adds t start a b from′ h)
 tangent-is-slope E start (segment length t rest) p m a b from h to =
     ⊎-elim
-    (λ is. subst (λ (q : Piece). q .start ≤ a → UpTo (q .end) b → rise E (segment length t rest) (b - start) ≡ rise E (segment length t rest) (a - start) + q .tangent * (b - a)) (sym is) here from to)
+    (λ is. subst (λ (q : Span). q .start ≤ a → UpTo (q .end) b → rise E (segment length t rest) (b - start) ≡ rise E (segment length t rest) (a - start) + q .tangent * (b - a)) (sym is) here from to)
     (λ later. beyond (starts-from E (start + E * length) rest p later) (tangent-is-slope E (start + E * length) rest p later a b from h to))
     (List·Memᴰ·cases-cons m)
   where

@@ -10,7 +10,7 @@ use Rattle.units.specs.declared.Modulus.{Modulus}
 use Rattle.curve.specs.declared.Side.{Side}
 use Rattle.curve.specs.declared.Reading.{Reading}
 use Rattle.curve.specs.Curve.{rise, height, limitAt}
-use Rattle.curve.specs.Tangent.{pieces, tangentIn, tangentAt}
+use Rattle.curve.specs.Tangent.{spans, tangentIn, tangentAt}
 use Rattle.curve.specs.Sides.{segmentsOf, curveOf, readingOf, flat, Readable, lengthAt, tangentOf}
 use Rattle.curve.proofs.Rise.{rise-last, rise-zero, rise-within, rise-beyond}
 use Rattle.curve.proofs.Tangents.{tangent-below, tangent-last, tangent-within, tangent-beyond}
@@ -28,7 +28,7 @@ pub record Reached (e : Modulus) (side : Side) (all carried past i : ℕ) : Type
   pub room : carried + past ≤ all
   -- from the segment's start on, the curve has risen by what is carried, and goes on with this segment and those after it
   pub rises : (x : ℕ) → rise (e .0) (from side 0) (all - past + x) ≡ e .0 * carried + rise (e .0) (from side i) x
-  pub tangents : tangentIn (e .0) (pieces (e .0) (yieldOf side) (from side 0)) (yieldOf side + all) ≡ tangentIn (e .0) (pieces (e .0) (yieldOf side + (all - past)) (from side i)) (yieldOf side + all)
+  pub tangents : tangentIn (e .0) (spans (e .0) (yieldOf side) (from side 0)) (yieldOf side + all) ≡ tangentIn (e .0) (spans (e .0) (yieldOf side + (all - past)) (from side i)) (yieldOf side + all)
 
 -- What `reading` answers at segment i is what the side says at the abscissa.
 abbrev pub ReadsRight : (e : Modulus) (side : Side) (all carried past i : ℕ) → Type 0
@@ -95,7 +95,7 @@ module _ {e : Modulus} {side : Side} {all carried past i : ℕ} (r : Reached e s
 
   -- Segment i is the one to read where it rises by its tangent up to the abscissa and holds it.
   stop : rise (e .0) (from side i) past ≡ tangentOf side i * past
-      → tangentIn (e .0) (pieces (e .0) (yieldOf side + (all - past)) (from side i)) (yieldOf side + all) ≡ tangentOf side i
+      → tangentIn (e .0) (spans (e .0) (yieldOf side + (all - past)) (from side i)) (yieldOf side + all) ≡ tangentOf side i
       → ReadsRight e side all carried past i
   unfolding readingOf curveOf limitAt tangentAt height from
   stop risen tangent reading is a lies =

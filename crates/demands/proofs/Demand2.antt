@@ -19,7 +19,7 @@ use Rattle.sheet.specs.Sheets.{sheetOf}
 use Rattle.sheet.specs.Sound.{SheetSound}
 use Rattle.units.specs.Signs.{isNeg}
 use Rattle.response.specs.Response.{Outcome, branchOf, isotropicMoved, kinematicMoved, asymmetricOutcome, outcomeUnder}
-use Rattle.response.specs.Solved.{Solved, conditionsUnder}
+use Rattle.response.specs.Solved.{Solved}
 use Rattle.rod.specs.declared.Rod.{Rod}
 use Rattle.rod.specs.declared.step.Advance.{Advance}
 use Rattle.state.specs.States.{stateOf}
@@ -59,7 +59,7 @@ no-branch Asymmetric h first second trial e = picked-still (isNeg trial) _ _ (br
 
 module _ {h : Sheet} (sound : SheetSound h) where
   outcome-solved : (r : Rod) (p : Pair) → Accepted h r
-      → Solved (h .modulus .0) (conditionsUnder (h .law) h sound (r .first .0) (r .second .0) (trialOf h r p)) (outcomeAfter h r p)
+      → Solved h sound (h .law) (trialOf h r p) (r .first .0) (r .second .0) (outcomeAfter h r p)
   outcome-solved r p a = pair-solved (record { sound = sound; in-range = a .in-range; counted = a .counted; belongs = a .belongs }) p
 
   solved : (r : Rod) (p : Pair) → Accepted h r → PairSolved h sound r p (advanceOf h r p .rod) (advanceOf h r p .row)

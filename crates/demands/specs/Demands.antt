@@ -18,7 +18,7 @@ use Rattle.sheet.specs.declared.Sheet.{Sheet}
 use Rattle.sheet.specs.Sheets.{sheetOf, sheetRefusals}
 use Rattle.sheet.specs.Sound.{SheetSound}
 use Rattle.response.specs.Response.{Outcome}
-use Rattle.response.specs.Solved.{Solved, conditionsUnder}
+use Rattle.response.specs.Solved.{Solved}
 use Rattle.rod.specs.declared.Rod.{Rod}
 use Rattle.rod.specs.declared.step.Advance.{Advance}
 use Rattle.state.specs.States.{stateOf, stateBytes, stateLength, zeroState}
@@ -135,7 +135,7 @@ pub record PairSolved (h : Sheet) (sound : SheetSound h) (r : Rod) (p : Pair) (n
   pub outcome : Outcome
   -- are the roundings (SPEC 7.2 to 7.5) of the one solution that the law's conditions have from the rod's stored numbers, and the tangent
   -- is that of SPEC 7.8.
-  pub solved : Solved (h .modulus .0) (conditionsUnder (h .law) h sound (r .first .0) (r .second .0) (trialOf h r p)) outcome
+  pub solved : Solved h sound (h .law) (trialOf h r p) (r .first .0) (r .second .0) outcome
   -- Where it didn't yield, no branch was taken (SPEC 7.7), which is where `solved` says that the tangent is E.
   pub still : outcome .yielded ≡ false → outcome .branch ≡ 0
   -- They stand in the new state, with strain, temperature and counts as the pair sets them (SPEC 7.9),
@@ -149,7 +149,7 @@ pub record PairSolved (h : Sheet) (sound : SheetSound h) (r : Rod) (p : Pair) (n
 -- SPEC 9.13: any pair, accepted or not, of a rod that passes: 10 is decided over the stated rounding of the only solution.
 pub record RangeDecided (h : Sheet) (sound : SheetSound h) (r : Rod) (pair : List ℕ) : Type 0 where
   pub outcome : Outcome
-  pub solved : Solved (h .modulus .0) (conditionsUnder (h .law) h sound (r .first .0) (r .second .0) (trialOf h r (pairOf pair))) outcome
+  pub solved : Solved h sound (h .law) (trialOf h r (pairOf pair)) (r .first .0) (r .second .0) outcome
   -- What stands in the pair's table before the line of 10.
   pub before : List Refusal
   pub line : pairTable h r pair ≡ before ++ (refusal 10 (leavesRange r (outcome .stress) (outcome .first) (outcome .second)) ∷ [])

@@ -12,7 +12,7 @@ use Rattle.fractions.proofs.Cases.{cond-cases}
 use Rattle.fractions.proofs.Arithmetic.{sub-same}
 use Rattle.flow.specs.Side.{Side, accumulated, Hardens}
 use Rattle.flow.specs.Conditions.{OnSide, Asymmetric}
-use Rattle.flow.specs.Solution.{AsymmetricSolved, flowed, asymmetric}
+use Rattle.flow.specs.Solution.{AsymmetricExactNumbers, flowed, asymmetric}
 use Rattle.flow.proofs.OneSide.{more-strain-more-stress, accumulated-injective, grows-past-limit, limit-positive, rests, flows, flow-balances, on-side-same}
 
 pub negated-twice : (x : Frac) → x ≈F negF (negF x)
@@ -210,5 +210,5 @@ module _ {tension compression : Side} (curve : Hardens tension) (curve′ : Hard
       (λ e′. asymmetric-same (≈F-sym (negated-twice trial)) (mirrored (tension-flows curve′ curve p′ p (leF-false _ _ e′)))))
       (λ e. tension-flows curve curve′ p p′ (leF-false _ _ e))
     where
-      solved : AsymmetricSolved → Type 0
+      solved : AsymmetricExactNumbers → Type 0
       solved m = Asymmetric tension compression trial A B (m .stress) (m .tension) (m .compression)

@@ -20,9 +20,9 @@ use Rattle.flow.proofs.SideRounding.{SideRounded, side-rounded, absciss
 
 -- A trial that is not negative leaves compression as it was, and tension rounds it.
 tension-rounded : {tension compression : Side} → Hardens tension → Hardens compression → {limit : ℕ → ℕ}
-    → ((a : ℕ) → LimitRounded tension a (limit a)) → (A B m : ℕ) → tension .yield ≤F whole (pos A) → compression .yield ≤F whole (pos B)
+    → ((a : ℕ) → LimitRounded tension (pos a) (limit a)) → (A B m : ℕ) → tension .yield ≤F whole (pos A) → compression .yield ≤F whole (pos B)
     → {q A′ B′ : Frac} → Asymmetric tension compression (whole (pos m)) (whole (pos A)) (whole (pos B)) q A′ B′
-    → SideRounded tension A q A′ (sideStored limit m A) × AbscissaRounded compression B B′ B
+    → SideRounded tension A q A′ (sideStored limit m A) × AbscissaRounded compression (whole (pos B)) B′ (pos B)
     × ¬ (accumulated compression (whole (pos B)) <F accumulated compression B′)
 tension-rounded {tension} {compression} curve curve′ floor A B m p p′ {q} {A′} {B′} s = (
   side-rounded curve floor p m (s .tension-holds) (tension-alone curve curve′ s stays),
@@ -44,15 +44,15 @@ tension-rounded {tension} {compression} curve curve′ floor A B m p p′ {q} {A
         ))
 
 pub asymmetric-rounded : {tension compression : Side} → Hardens tension → Hardens compression → {limitT limitC : ℕ → ℕ}
-    → ((a : ℕ) → LimitRounded tension a (limitT a)) → ((a : ℕ) → LimitRounded compression a (limitC a)) → {A B : ℕ}
+    → ((a : ℕ) → LimitRounded tension (pos a) (limitT a)) → ((a : ℕ) → LimitRounded compression (pos a) (limitC a)) → (A B : ℕ)
     → tension .yield ≤F whole (pos A) → compression .yield ≤F whole (pos B) → (trial : ℤ) {q A′ B′ : Frac}
     → Asymmetric tension compression (whole trial) (whole (pos A)) (whole (pos B)) q A′ B′
     → let stored = asymmetricStored limitT limitC trial A B in
-    AsymmetricRounded tension compression A B q A′ B′ (stored .stress) (stored .tension) (stored .compression)
+    AsymmetricRounded tension compression (whole (pos A)) (whole (pos B)) q A′ B′ (stored .stress) (pos (stored .tension)) (pos (stored .compression))
     × ((stored .yielded ≡ true)
     ↔ ((accumulated tension (whole (pos A)) <F accumulated tension A′) ⊎ (accumulated compression (whole (pos B)) <F accumulated compression B′)))
 unfolding asymmetricStored
-asymmetric-rounded curve curve′ {limitT} {limitC} floorT floorC {A} {B} p p′ (pos m) {q} s =
+asymmetric-rounded curve curve′ {limitT} {limitC} floorT floorC A B p p′ (pos m) {q} s =
     let (r, kept, stays) = tension-rounded curve curve′ floorT A B m p p′ s in (
       record {
         tension-abscissa = r .abscissa;
@@ -63,7 +63,7 @@ asymmetric-rounded curve curve′ {limitT} {limitC} floorT floorC {A} {B} p p′
       },
       (λ y. inl (r .yields .0 y), ⊎-elim (r .yields .1) (λ g. absurd (stays g))),
     )
-asymmetric-rounded curve curve′ {limitT} {limitC} floorT floorC {A} {B} p p′ (negsuc n) {q} s =
+asymmetric-rounded curve curve′ {limitT} {limitC} floorT floorC A B p p′ (negsuc n) {q} s =
     let (r, kept, stays) = tension-rounded curve′ curve floorC B A (suc n) p′ p (rw whole-neg at (mirrored s)) in (
       record {
         tension-abscissa = kept;
@@ -76,12 +76,12 @@ asymmetric-rounded curve curve′ {limitT} {limitC} floorT floorC {A} {B} p p′
     )
 
 -- The rounding of a candidate is one stress and one abscissa on each side.
-pub asymmetric-rounded-unique : {tension compression : Side} {A B : ℕ} {q A′ B′ : Frac} {r r′ : ℤ} {a a′ b b′ : ℕ}
+pub asymmetric-rounded-unique : {tension compression : Side} {A B q A′ B′ : Frac} {r r′ a a′ b b′ : ℤ}
     → AsymmetricRounded tension compression A B q A′ B′ r a b → AsymmetricRounded tension compression A B q A′ B′ r′ a′ b′
     → (r ≡ r′) × (a ≡ a′) × (b ≡ b′)
 asymmetric-rounded-unique {tension} {compression} {A} {B} {q} {A′} {B′} {r} {r′} {a} {a′} {b} {b′} s s′ = (
-  ⊎-elim (λ l. ⊎-elim (still l) compression-grown (≤F-or-<F (accumulated compression B′) (accumulated compression (whole (pos B))))) tension-grown
-      (≤F-or-<F (accumulated tension A′) (accumulated tension (whole (pos A)))),
+  ⊎-elim (λ l. ⊎-elim (still l) compression-grown (≤F-or-<F (accumulated compression B′) (accumulated compression B))) tension-grown
+      (≤F-or-<F (accumulated tension A′) (accumulated tension A)),
   same,
   same′,
 )
@@ -92,14 +92,13 @@ asymmetric-rounded-unique {tension} {compression} {A} {B} {q} {A′} {B′} {r} 
     same′ : b ≡ b′
     same′ = abscissa-unique (s .compression-abscissa) (s′ .compression-abscissa)
 
-    still : accumulated tension A′ ≤F accumulated tension (whole (pos A)) → accumulated compression B′ ≤F accumulated compression
-        (whole (pos B)) → r ≡ r′
+    still : accumulated tension A′ ≤F accumulated tension A → accumulated compression B′ ≤F accumulated compression B → r ≡ r′
     still l l′ = whole-eq r r′ (≈F-trans (≈F-sym (s .still l l′)) (s′ .still l l′))
 
-    tension-grown : accumulated tension (whole (pos A)) <F accumulated tension A′ → r ≡ r′
+    tension-grown : accumulated tension A <F accumulated tension A′ → r ≡ r′
     tension-grown l = let (R, f, e) = s .tension-grown l in let (R′, f′, e′) = s′ .tension-grown l in
         e ∙ ap pos (limit-unique f (rw (← same) at f′)) ∙ sym e′
 
-    compression-grown : accumulated compression (whole (pos B)) <F accumulated compression B′ → r ≡ r′
+    compression-grown : accumulated compression B <F accumulated compression B′ → r ≡ r′
     compression-grown l = let (R, f, e) = s .compression-grown l in let (R′, f′, e′) = s′ .compression-grown l in
         e ∙ ap (λ (n : ℕ). negℤ (pos n)) (limit-unique f (rw (← same′) at f′)) ∙ sym e′

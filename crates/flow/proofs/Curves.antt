@@ -33,5 +33,5 @@ module _ {E : ℕ} (E-pos : 0 < E) {curve : Curve} (passes : CurvePasses E curve
       not-negative : whole (pos 0) ≤F whole (pos (curve .yield))
       not-negative = is-le (is-whole-one (pos 0)) (is-whole-one (pos (curve .yield))) .1 (omega arith)
 
-pub curve-rounded : {E : ℕ} (E-pos : 0 < E) (curve : Curve) (a : ℕ) → LimitRounded (sideOf E E-pos curve) a (limitAt E curve a)
+pub curve-rounded : {E : ℕ} (E-pos : 0 < E) (curve : Curve) (a : ℕ) → LimitRounded (sideOf E E-pos curve) (pos a) (limitAt E curve a)
 curve-rounded {E} E-pos curve a = record { floor = limit-floor E E-pos curve a }

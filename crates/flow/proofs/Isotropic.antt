@@ -9,7 +9,7 @@ use Rattle.fractions.proofs.Arithmetic.{signed-same}
 use Rattle.fractions.proofs.Signs.{abs-signed, like-signs-abs, like-signs-sign, signed-rest, nought-signed}
 use Rattle.flow.specs.Side.{Side, accumulated, Hardens}
 use Rattle.flow.specs.Conditions.{OnSide, Isotropic}
-use Rattle.flow.specs.Solution.{Solved, flowed, isotropic}
+use Rattle.flow.specs.Solution.{ExactNumbers, flowed, isotropic}
 use Rattle.flow.proofs.OneSide.{one-side-unique, grows-past-limit, limit-positive, rests, flows, flow-balances, on-side-same, growth-not-negative}
 
 module _ {side : Side} {trial A stress A′ : Frac} (s : Isotropic side trial A stress A′) where
@@ -61,5 +61,5 @@ module _ {side : Side} (curve : Hardens side) where
       → let m = isotropic side trial A in Isotropic side trial A (m .stress) (m .variable)
   unfolding isotropic
   isotropic-solves trial A p =
-      cond-cases (λ (m : Solved). Isotropic side trial A (m .stress) (m .variable)) _ _ _
+      cond-cases (λ (m : ExactNumbers). Isotropic side trial A (m .stress) (m .variable)) _ _ _
       (λ e. isotropic-rests p (leF-true _ _ e)) (λ e. isotropic-flows p (leF-false _ _ e))

@@ -14,14 +14,14 @@ use Rattle.flow.specs.Stored.{sideStored, isotropicStored}
 use Rattle.flow.proofs.Isotropic.{magnitudes-balance, sign-of-trial}
 use Rattle.flow.proofs.SideRounding.{SideRounded, side-rounded, abscissa-unique, limit-unique}
 
-pub isotropic-rounded : {side : Side} → Hardens side → {limit : ℕ → ℕ} → ((a : ℕ) → LimitRounded side a (limit a)) → {A : ℕ}
+pub isotropic-rounded : {side : Side} → Hardens side → {limit : ℕ → ℕ} → ((a : ℕ) → LimitRounded side (pos a) (limit a)) → (A : ℕ)
     → side .yield ≤F whole (pos A)
     → (trial : ℤ) {q B : Frac} → Isotropic side (whole trial) (whole (pos A)) q B
     → let stored = isotropicStored limit trial A in
-    IsotropicRounded side trial A q B (stored .stress) (stored .abscissa) ×
+    IsotropicRounded side trial (whole (pos A)) q B (stored .stress) (pos (stored .abscissa)) ×
     ((stored .yielded ≡ true) ↔ (accumulated side (whole (pos A)) <F accumulated side B))
 unfolding isotropicStored
-isotropic-rounded {side} curve {limit} floor {A} p trial {q} {B} s = (
+isotropic-rounded {side} curve {limit} floor A p trial {q} {B} s = (
   record {
     abscissa = r .abscissa;
     grown = λ g. (sideStored limit (natAbs trial) A .magnitude, r .grown g, refl);
@@ -35,17 +35,17 @@ isotropic-rounded {side} curve {limit} floor {A} p trial {q} {B} s = (
     r = side-rounded curve floor p (natAbs trial) (s .side-holds) (rw whole-abs at (magnitudes-balance s))
 
 -- The rounding of a candidate is one stress and one abscissa.
-pub isotropic-rounded-unique : {side : Side} {trial : ℤ} {A : ℕ} {q B : Frac} {r r′ : ℤ} {a a′ : ℕ}
+pub isotropic-rounded-unique : {side : Side} {trial : ℤ} {A q B : Frac} {r r′ a a′ : ℤ}
     → IsotropicRounded side trial A q B r a → IsotropicRounded side trial A q B r′ a′ → (r ≡ r′) × (a ≡ a′)
 isotropic-rounded-unique {side} {trial} {A} {q} {B} {r} {r′} {a} {a′} s s′ =
-    (⊎-elim still grown (≤F-or-<F (accumulated side B) (accumulated side (whole (pos A)))), same)
+    (⊎-elim still grown (≤F-or-<F (accumulated side B) (accumulated side A)), same)
   where
     same : a ≡ a′
     same = abscissa-unique (s .abscissa) (s′ .abscissa)
 
-    still : accumulated side B ≤F accumulated side (whole (pos A)) → r ≡ r′
+    still : accumulated side B ≤F accumulated side A → r ≡ r′
     still l = whole-eq r r′ (≈F-trans (≈F-sym (s .still l)) (s′ .still l))
 
-    grown : accumulated side (whole (pos A)) <F accumulated side B → r ≡ r′
+    grown : accumulated side A <F accumulated side B → r ≡ r′
     grown l = let (R, f, e) = s .grown l in let (R′, f′, e′) = s′ .grown l in
         e ∙ ap (λ (n : ℕ). signed trial (pos n)) (limit-unique f (rw (← same) at f′)) ∙ sym e′

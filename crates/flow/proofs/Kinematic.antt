@@ -17,7 +17,7 @@ use Rattle.fractions.proofs.Arithmetic.{add-same, sub-same, abs-same, add-then-
 use Rattle.fractions.proofs.Signs.{abs-signed, abs-not-negative, nought-signed, signed-signed, like-signs-abs, like-signs-sign, times-signed}
 use Rattle.flow.specs.Side.{Side, accumulated, Hardens}
 use Rattle.flow.specs.Conditions.{OnSide, Kinematic}
-use Rattle.flow.specs.Solution.{Solved, kinematic}
+use Rattle.flow.specs.Solution.{ExactNumbers, kinematic}
 use Rattle.flow.proofs.OneSide.{one-side-unique, grows-past-limit}
 
 -- A limit that never rises.
@@ -234,5 +234,5 @@ module _ {E tangent : ℕ} {below : tangent < E} {yield : Frac} (positive : whol
       Kinematic E tangent below yield trial X (m .stress) (m .variable) (absF (trial -F m .stress))
   unfolding kinematic
   kinematic-solves h trial X =
-      cond-cases (λ (m : Solved). Kinematic E tangent below yield trial X (m .stress) (m .variable) (absF (trial -F m .stress))) _ _ _
+      cond-cases (λ (m : ExactNumbers). Kinematic E tangent below yield trial X (m .stress) (m .variable) (absF (trial -F m .stress))) _ _ _
       (λ e. kinematic-rests (leF-true _ _ e)) (λ e. kinematic-flows h (leF-false _ _ e))

@@ -8,7 +8,7 @@ use Prim.Native.Nat.{ℕ, _+_, _-_, _≤_, _<_}
 use borrow.Author.Tests.{leb-true, leb-false}
 use native.Mathlib.Omega.{arith}
 use lib.Dec.{leb}
-use lib.IntN.{pos}
+use lib.IntN.{ℤ, pos}
 use Rattle.fractions.specs.Fraction.{Frac, _≤F_, _<F_, _≈F_, whole, _+F_, _-F_}
 use Rattle.fractions.proofs.Common.{is-add, is-sub, is-le, is-eq, at-common}
 use Rattle.fractions.proofs.Comparison.{≤F-antisym, ≈F-sym, <F-not-≤F, ≤F-or-<F, ≈F-trans, ≈F-refl, whole-eq}
@@ -41,13 +41,13 @@ module _ {side : Side} {trial A q B : Frac} (h : OnSide side A q B) (e : trial �
 
 -- What `sideStored` leaves of a candidate (q, B) on one side.
 pub record SideRounded (side : Side) (A : ℕ) (q B : Frac) (stored : SideStored) : Type 0 where
-  pub abscissa : AbscissaRounded side A B (stored .abscissa)
-  pub grown : accumulated side (whole (pos A)) <F accumulated side B → LimitRounded side (stored .abscissa) (stored .magnitude)
+  pub abscissa : AbscissaRounded side (whole (pos A)) B (pos (stored .abscissa))
+  pub grown : accumulated side (whole (pos A)) <F accumulated side B → LimitRounded side (pos (stored .abscissa)) (stored .magnitude)
   pub still : accumulated side B ≤F accumulated side (whole (pos A)) → q ≈F whole (pos (stored .magnitude))
   pub yields : (stored .yielded ≡ true) ↔ (accumulated side (whole (pos A)) <F accumulated side B)
 
 -- On one side, from a whole abscissa and a trial of whole magnitude.
-module _ {side : Side} (curve : Hardens side) {limit : ℕ → ℕ} (floor : (a : ℕ) → LimitRounded side a (limit a)) {A : ℕ}
+module _ {side : Side} (curve : Hardens side) {limit : ℕ → ℕ} (floor : (a : ℕ) → LimitRounded side (pos a) (limit a)) {A : ℕ}
     (p : side .yield ≤F whole (pos A))
     (m : ℕ) {q B : Frac} (h : OnSide side (whole (pos A)) q B)
     (e : whole (pos m) ≈F (q +F (accumulated side B -F accumulated side (whole (pos A))))) where
@@ -91,12 +91,11 @@ module _ {side : Side} (curve : Hardens side) {limit : ℕ → ℕ} (floor : (a 
 pos-injective : (a b : ℕ) → pos a ≡ pos b → a ≡ b
 pos-injective a b e = cc
 
-pub abscissa-unique : {side : Side} {A : ℕ} {B : Frac} {a a′ : ℕ} → AbscissaRounded side A B a → AbscissaRounded side A B a′ → a ≡ a′
+pub abscissa-unique : {side : Side} {A B : Frac} {a a′ : ℤ} → AbscissaRounded side A B a → AbscissaRounded side A B a′ → a ≡ a′
 abscissa-unique {side} {A} {B} {a} {a′} r r′ =
-    pos-injective a a′
-    (⊎-elim (λ l. whole-eq (pos a) (pos a′) (≈F-trans (≈F-sym (r .still l)) (r′ .still l)))
-    (λ l. ceiling-unique (pos a) (pos a′) (≈F-refl B) (r .grown l) (r′ .grown l)) (≤F-or-<F (accumulated side B) (accumulated side (whole (pos A)))))
+    ⊎-elim (λ l. whole-eq a a′ (≈F-trans (≈F-sym (r .still l)) (r′ .still l)))
+    (λ l. ceiling-unique a a′ (≈F-refl B) (r .grown l) (r′ .grown l)) (≤F-or-<F (accumulated side B) (accumulated side A))
 
-pub limit-unique : {side : Side} {a R R′ : ℕ} → LimitRounded side a R → LimitRounded side a R′ → R ≡ R′
+pub limit-unique : {side : Side} {a : ℤ} {R R′ : ℕ} → LimitRounded side a R → LimitRounded side a R′ → R ≡ R′
 limit-unique {side} {a} {R} {R′} r r′ = pos-injective R R′
-    (floor-unique (pos R) (pos R′) (≈F-refl (side .limit (whole (pos a)))) (r .floor) (r′ .floor))
+    (floor-unique (pos R) (pos R′) (≈F-refl (side .limit (whole a))) (r .floor) (r′ .floor))

@@ -1,5 +1,5 @@
--- The conditions of one pair, law by law, over fractions (SPEC 6.1 to 6.5), cited by response for the stored rod, whose old numbers are
--- whole, and by accuracy for the bar without rounding; definitions only, nothing is assumed. E times the change of plastic strain is the
+-- The conditions of one pair, law by law, over fractions (SPEC 6.1 to 6.5), cited by response's Candidates, for the stored rod, whose old
+-- numbers are whole, and for the bar without rounding; definitions only, nothing is assumed. E times the change of plastic strain is the
 -- trial stress less the new stress (SPEC 5.5).
 use Prim.Native.Nat.{ℕ, _-_, _<_}
 use native.Mathlib.Nat.{sub-pos-iff-lt}

@@ -1,4 +1,4 @@
--- The curve of some segments as a side for the laws (SPEC 4.4, 4.9), cited by response and accuracy; definitions only, nothing is assumed.
+-- The curve of some segments as a side for the laws (SPEC 4.4, 4.9), cited by response; definitions only, nothing is assumed.
 use Prim.Native.Nat.{ℕ, _<_}
 use lib.IntN.{pos}
 use Rattle.fractions.specs.Fraction.{whole}

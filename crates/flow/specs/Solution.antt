@@ -6,7 +6,7 @@ use Rattle.fractions.specs.Fraction.{Frac, leF, _+F_, negF, _-F_, absF, signedF
 use Rattle.flow.specs.Side.{Side}
 
 -- SPEC 6.9: the stress and the abscissa, or the centre, after a pair of laws 0 to 2.
-pub record Solved : Type 0 where
+pub record ExactNumbers : Type 0 where
   pub stress : Frac
   pub variable : Frac
 
@@ -16,7 +16,7 @@ flowed side trial A = A +F (trial -F side .limit A)
 
 -- SPEC 6.9, laws 0 and 1: up to the limit the trial is the stress and the abscissa stays; beyond it the side flows, and the stress is the
 -- limit that it comes to, with the trial's sign.
-unfoldable pub isotropic : Side → (trial A : Frac) → Solved
+unfoldable pub isotropic : Side → (trial A : Frac) → ExactNumbers
 isotropic side trial A =
     let A′ = flowed side (absF trial) A in
     cond (leF (absF trial) (side .limit A)) (record { stress = trial; variable = A })
@@ -24,7 +24,7 @@ isotropic side trial A =
 
 -- SPEC 6.9, law 2: up to one radius from the centre the trial is the stress and the centre stays; further out the centre moves toward the
 -- trial by t / E of the excess, and the stress is one radius ahead of the new centre.
-unfoldable pub kinematic : (E tangent : ℕ) → 0 < E → (yield trial X : Frac) → Solved
+unfoldable pub kinematic : (E tangent : ℕ) → 0 < E → (yield trial X : Frac) → ExactNumbers
 kinematic E tangent E-pos yield trial X =
     let s = trial -F X in
     let X′ = X +F signedF s (timesF (absF s -F yield) tangent E E-pos) in
@@ -32,14 +32,14 @@ kinematic E tangent E-pos yield trial X =
     (record { stress = X′ +F signedF s yield; variable = X′ })
 
 -- SPEC 6.9: the stress and the abscissas of both sides after a pair of law 3.
-pub record AsymmetricSolved : Type 0 where
+pub record AsymmetricExactNumbers : Type 0 where
   pub stress : Frac
   pub tension : Frac
   pub compression : Frac
 
 -- SPEC 6.9, law 3: between both limits the trial is the stress and both abscissas stay; beyond one of them that side flows, the stress is
 -- its new limit (negative in compression), and the other side stays. Tension is asked first.
-unfoldable pub asymmetric : (tension compression : Side) → (trial A B : Frac) → AsymmetricSolved
+unfoldable pub asymmetric : (tension compression : Side) → (trial A B : Frac) → AsymmetricExactNumbers
 asymmetric tension compression trial A B =
     let A′ = flowed tension trial A in
     let B′ = flowed compression (negF trial) B in

@@ -1,15 +1,15 @@
 -- SPEC 2.6, 2.8: every operation on fractions respects "the same number"; sums are monotone; "within k" is two inequalities.
 use mathlib.Core.Path.{_≡_, refl}
 use mathlib.Core.List.{[], _∷_}
-use mathlib.Core.Logic.{_↔_}
+use mathlib.Core.Logic.{_↔_, _⊎_, inl, inr, ⊎-elim}
 use Prim.Native.Nat.{ℕ, _+_, _*_, _≤_, _<_}
 use native.Mathlib.Nat.{mul-le-mul-left, mul-lt-mul-of-pos-left, lt-of-mul-lt-mul-left, eq-of-mul-eq-mul-left}
 use native.Mathlib.Decide.{decLe}
 use native.Mathlib.Omega.{arith}
 use lib.IntN.{ℤ, pos, negℤ, natAbs, _+ℤ_, _-ℤ_}
 use Rattle.fractions.specs.Fraction.{Frac, _≤F_, _<F_, _≈F_, whole, _+F_, negF, _-F_, absF, signed, signedF, timesF, Within}
-use Rattle.fractions.proofs.Comparison.{≈F-refl}
-use Rattle.fractions.proofs.Parts.{add-parts, sub-parts-ℤ}
+use Rattle.fractions.proofs.Comparison.{≈F-refl, ≤F-cases}
+use Rattle.fractions.proofs.UpDown.{add-parts, sub-parts-ℤ}
 use Rattle.fractions.proofs.Common.{Is, is-own, is-same, is-scale, is-whole, is-whole-one, is-add, is-neg, is-sub, is-abs, is-signed-up, is-signed-dn, is-times, is-le, is-lt, is-eq, at-common}
 
 pub add-same : {w x y z : Frac} → w ≈F x → y ≈F z → (w +F y) ≈F (x +F z)
@@ -83,6 +83,31 @@ times-injective x y t e h l k =
     at-common (x ∷ y ∷ [])
     (λ d ((p, n, i), ((q, m, j), _)).
     is-eq i j .1 (eq-of-mul-eq-mul-left t l (p + m) (q + n) (omega (arith, is-eq (is-times t e h i) (is-times t e h j) .0 k))))
+
+-- ---- Differences and sums above nought
+
+-- A difference is above nought exactly where the second number is below the first.
+pub difference-positive : {x y z : Frac} → z ≈F (y -F x) → (x <F y) ↔ (whole (pos 0) <F z)
+difference-positive {x} {y} {z} e =
+    at-common (x ∷ y ∷ z ∷ [])
+    (λ d ((_, _, i), ((_, _, j), ((_, _, k), _))).
+    let nought = is-whole (pos 0) (i .some) in
+    let same = is-eq k (is-sub j i) .0 e in
+    (λ l. is-lt nought k .1 (omega (arith, is-lt i j .0 l)), λ l. is-lt i j .1 (omega (arith, is-lt nought k .0 l))))
+
+-- A sum of two numbers that aren't negative is above nought exactly where one of them is.
+pub sum-positive : {x y z : Frac} → whole (pos 0) ≤F x → whole (pos 0) ≤F y → z ≈F (x +F y)
+    → ((whole (pos 0) <F x) ⊎ (whole (pos 0) <F y)) ↔ (whole (pos 0) <F z)
+sum-positive {x} {y} {z} h h′ e =
+    at-common (x ∷ y ∷ z ∷ [])
+    (λ d ((_, _, i), ((_, _, j), ((_, _, k), _))).
+    let nought = is-whole (pos 0) (i .some) in
+    let same = is-eq k (is-add i j) .0 e in
+    let low = is-le nought i .0 h in
+    let low′ = is-le nought j .0 h′ in (
+      ⊎-elim (λ l. is-lt nought k .1 (omega (arith, is-lt nought i .0 l))) (λ l. is-lt nought k .1 (omega (arith, is-lt nought j .0 l))),
+      λ l. ⊎-elim (λ g. inl g) (λ g. inr (is-lt nought j .1 (omega (arith, is-eq nought i .0 g, is-lt nought k .0 l)))) (≤F-cases h),
+    ))
 
 -- ---- A summand can be told from the sum
 

@@ -11,7 +11,7 @@ use native.Mathlib.Omega.{arith}
 use lib.Dec.{lit<}
 use lib.IntN.{ℤ, pos, negsuc, natAbs, _*ℤ_}
 use Rattle.fractions.specs.Fraction.{Frac, _≤F_, _<F_, _≈F_, whole, _+F_, negF, _-F_, absF, signed, signedF, timesF, _*F_}
-use Rattle.fractions.proofs.Parts.{up, dn, equal-parts, add-parts, neg-parts, times-parts, mul-parts, le-parts, le-of-parts, lt-parts, lt-of-parts}
+use Rattle.fractions.proofs.UpDown.{up, dn, equal-parts, add-parts, neg-parts, times-parts, mul-parts, le-parts, le-of-parts, lt-parts, lt-of-parts}
 
 -- x is (p - n) / d.
 pub record Is (x : Frac) (p n d : ℕ) : Type 0 where

@@ -9,7 +9,7 @@ use native.Mathlib.Omega.{arith}
 use lib.IntN.{ℤ}
 use lib.Signed.{_≤ℤ_, _<ℤ_, leZ-yes}
 use Rattle.fractions.specs.Fraction.{Frac, _≤F_, _<F_, _≈F_, leF, whole}
-use Rattle.fractions.proofs.Parts.{equal-parts, le-parts, le-of-parts, lt-parts, lt-of-parts}
+use Rattle.fractions.proofs.UpDown.{equal-parts, le-parts, le-of-parts, lt-parts, lt-of-parts}
 use Rattle.fractions.proofs.Common.{is-own, is-whole-one, is-le, is-lt, is-eq, AllOver, at-common, common}
 
 pub ≤F-refl : (x : Frac) → x ≤F x

@@ -1,4 +1,4 @@
-pub mod Parts
+pub mod UpDown
 pub mod Ring
 pub mod Order
 pub mod Common

@@ -7,7 +7,7 @@ use native.Mathlib.Decide.{decLe, map-dec}
 use native.Mathlib.Omega.{arith}
 use lib.IntN.{ℤ, pos, negℤ, _+ℤ_, _*ℤ_}
 use lib.Signed.{_≤ℤ_, _<ℤ_}
-use Rattle.fractions.proofs.Parts.{up, dn, equal-parts, add-parts, neg-parts, times-parts, le-parts, le-of-parts, lt-parts, lt-of-parts}
+use Rattle.fractions.proofs.UpDown.{up, dn, equal-parts, add-parts, neg-parts, times-parts, le-parts, le-of-parts, lt-parts, lt-of-parts}
 
 pub ≤ℤ-trans : {x y z : ℤ} → x ≤ℤ y → y ≤ℤ z → x ≤ℤ z
 ≤ℤ-trans {x} {y} {z} h k = le-of-parts x z (omega (arith, le-parts h, le-parts k))

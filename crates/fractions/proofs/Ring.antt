@@ -3,7 +3,7 @@ use mathlib.Core.Path.{_≡_, sym, _∙_, ap}
 use Prim.Native.Nat.{ℕ, _*_}
 use native.Mathlib.Omega.{arith}
 use lib.IntN.{ℤ, negℤ, _+ℤ_, _*ℤ_, *ℤ-comm, +ℤ-comm, +ℤ-assoc, negℤ-+ℤ, negℤ-negℤ}
-use Rattle.fractions.proofs.Parts.{up, dn, equal-parts, add-parts, neg-parts, mul-parts}
+use Rattle.fractions.proofs.UpDown.{up, dn, equal-parts, add-parts, neg-parts, mul-parts}
 
 pub *ℤ-+ℤ : (x y z : ℤ) → x *ℤ (y +ℤ z) ≡ x *ℤ y +ℤ x *ℤ z
 *ℤ-+ℤ x y z =

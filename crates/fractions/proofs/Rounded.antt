@@ -9,7 +9,7 @@ use lib.IntN.{ℤ, pos, _+ℤ_, _-ℤ_}
 use lib.Signed.{_≤ℤ_}
 use Rattle.fractions.specs.Fraction.{Frac, _≤F_, _<F_, _≈F_, whole, _+F_, _-F_, timesF}
 use Rattle.fractions.specs.Rounding.{Floor, Ceiling}
-use Rattle.fractions.proofs.Parts.{up, dn, add-parts, sub-parts-ℤ, le-of-parts, lt-parts}
+use Rattle.fractions.proofs.UpDown.{up, dn, add-parts, sub-parts-ℤ, le-of-parts, lt-parts}
 use Rattle.fractions.proofs.Order.{≤ℤ-antisym}
 use Rattle.fractions.proofs.Common.{Is, is-whole, is-whole-one, is-shift, is-add, is-sub, is-times, is-le, is-lt, at-common}
 use Rattle.fractions.proofs.Comparison.{≤F-of-≈F, ≈F-sym, ≤F-trans, ≤F-<F-trans, <F-≤F-trans, whole-le, whole-lt}

@@ -1,7 +1,7 @@
 -- SPEC 2.4: magnitudes and signs apart and back, and sums of numbers of one sign.
 use mathlib.Core.Path.{refl}
 use mathlib.Core.List.{[], _∷_}
-use mathlib.Core.Logic.{_⊎_, inl, inr}
+use mathlib.Core.Logic.{_↔_, _⊎_, inl, inr, ⊎-elim}
 use Prim.Native.Nat.{ℕ, _≤_, _<_}
 use native.Mathlib.Decide.{decLe}
 use native.Mathlib.Omega.{arith}
@@ -83,6 +83,20 @@ times-signed s x t e h = at-common (s ∷ x ∷ []) (λ d ((p, n, i), ((_, _, j)
 
 pub abs-not-negative : (x : Frac) → whole (pos 0) ≤F absF x
 abs-not-negative x = at-common (x ∷ []) (λ d ((_, _, i), _). is-le (is-whole (pos 0) (i .some)) (is-abs i) .1 (omega arith))
+
+-- A magnitude lies above a number exactly where the number itself or its negation does.
+pub abs-above : (y x : Frac) → (y <F absF x) ↔ ((y <F x) ⊎ (y <F negF x))
+abs-above y x = at-common (y ∷ x ∷ []) (λ d ((_, _, i), ((p, n, j), _)). go p n d _ _ i j (decLe n p))
+  where
+    go : (p n d u v : ℕ) → Is y u v d → Is x p n d → Dec (n ≤ p) → (y <F absF x) ↔ ((y <F x) ⊎ (y <F negF x))
+    go p n d u v i j (yes h) = (
+      λ l. inl (is-lt i j .1 (omega (arith, is-lt i (is-abs j) .0 l))),
+      ⊎-elim (λ l. is-lt i (is-abs j) .1 (omega (arith, is-lt i j .0 l))) (λ l. is-lt i (is-abs j) .1 (omega (arith, is-lt i (is-neg j) .0 l))),
+    )
+    go p n d u v i j (no h) = (
+      λ l. inr (is-lt i (is-neg j) .1 (omega (arith, is-lt i (is-abs j) .0 l))),
+      ⊎-elim (λ l. is-lt i (is-abs j) .1 (omega (arith, is-lt i j .0 l))) (λ l. is-lt i (is-abs j) .1 (omega (arith, is-lt i (is-neg j) .0 l))),
+    )
 
 -- A sign put before a number above nought is the sign of what comes out.
 pub signed-signed : (s : Frac) {m : Frac} (x : Frac) → whole (pos 0) <F m → signedF (signedF s m) x ≈F signedF s x

@@ -1,107 +1,34 @@
 -- SPEC 6.7, 7.1: for every sheet that passes and every state with no abscissa below its yield, what a pair leaves is the rounding of the
--- one solution that the conditions have.
-use Prim.Native.Nat.{ℕ, _≤_, _<_}
-use mathlib.Core.Path.{_≡_, refl, sym, ap, _∙_}
-use mathlib.Core.Bool.{true, false}
-use mathlib.Core.Logic.{_⊎_, inl, inr, ⊎-elim, _↔_, Iff·trans}
+-- one solution that the conditions have. What is said of the conditions alone is in Candidates; here it is what each law leaves.
+use Prim.Native.Nat.{ℕ, _≤_}
+use mathlib.Core.Path.{_≡_, refl, sym, _∙_}
+use mathlib.Core.Bool.{true, false, true≢false}
+use mathlib.Core.Logic.{_↔_, Iff·trans}
 use native.Mathlib.Omega.{arith}
-use lib.IntN.{ℤ, pos, negsuc, natAbs, _-ℤ_}
-use Rattle.fractions.specs.Fraction.{Frac, _≤F_, _<F_, _≈F_, whole, _-F_, absF}
-use Rattle.fractions.proofs.Common.{is-whole-one, is-le, is-lt}
-use Rattle.fractions.proofs.Comparison.{<F-≤F-trans, ≤F-of-≈F, ≈F-sym}
-use Rattle.fractions.proofs.Arithmetic.{neg-same, abs-same, whole-sub}
+use lib.IntN.{ℤ, pos, negsuc, _-ℤ_}
+use Rattle.fractions.specs.Fraction.{_≤F_, whole}
+use Rattle.fractions.proofs.Common.{is-whole-one, is-le}
+use Rattle.fractions.proofs.Comparison.{≈F-refl}
+use Rattle.fractions.proofs.Arithmetic.{whole-sub, difference-positive}
 use Rattle.law.specs.declared.Law.{Law}
 use Rattle.law.specs.declared.Law.the-variants.{IsotropicLine, IsotropicCurve, Kinematic, Asymmetric}
-use Rattle.units.specs.Signs.{isNeg}
 use Rattle.curve.specs.Curve.{Curve, limitAt}
 use Rattle.curve.specs.Sides.{curveOf}
 use Rattle.sheet.specs.declared.Sheet.{Sheet}
-use Rattle.sheet.specs.Sound.{SheetSound}
-use Rattle.flow.specs.CurveSide.{sideOf, CurvePasses}
-use Rattle.flow.specs.Solution.{isotropic, kinematic, asymmetric}
+use Rattle.sheet.specs.Sound.{SheetSound, tangentOf}
 use Rattle.flow.specs.Stored.{AsymmetricStored, isotropicStored, kinematicStored, asymmetricStored}
-use Rattle.flow.proofs.Curves.{curve-hardens, curve-rounded}
+use Rattle.flow.proofs.Curves.{curve-rounded}
 use Rattle.flow.proofs.OneSide.{limit-positive}
-use Rattle.flow.proofs.Isotropic.{isotropic-solves, isotropic-unique, isotropic-grows}
 use Rattle.flow.proofs.IsotropicRounding.{isotropic-rounded, isotropic-rounded-unique}
-use Rattle.flow.proofs.Kinematic.{kinematic-solves, kinematic-unique, kinematic-grows}
 use Rattle.flow.proofs.KinematicRounding.{kinematic-rounded, kinematic-rounded-unique}
-use Rattle.flow.proofs.Asymmetric.{asymmetric-solves, asymmetric-unique, asymmetric-grows}
 use Rattle.flow.proofs.AsymmetricRounding.{asymmetric-rounded, asymmetric-rounded-unique}
 use Rattle.response.specs.Response.{Outcome, branchOf, isotropicMoved, kinematicMoved, inFirst, asymmetricOutcome, outcomeUnder, outcomeOf}
-use Rattle.response.specs.Solved.{Solved, isotropicConditions, kinematicConditions, asymmetricConditions, SegmentTangent, conditionsUnder, PastYield, AbscissasPast}
-use Rattle.response.proofs.SoundSides.{sound-passes}
-use Rattle.response.proofs.Branches.{not-negative}
+use Rattle.response.specs.Candidates.{Candidate, Grows, Passes, PassesTension, PassesCompression}
+use Rattle.response.specs.Solved.{RoundsUnder, SegmentTangent, TangentTension, TangentCompression, Meets, Solved, PastYield, AbscissasPast}
+use Rattle.response.proofs.Candidates.{PastUnder, tension-hardens, compression-hardens, radius-positive, solutionUnder, solution-meets, meets-same, grows-passes, sides-grow}
 use Rattle.response.proofs.Places.{isotropic-branch}
 use Rattle.response.proofs.MovedTangent.{branch-still, branch-flows, tangent-still, tangent-of-segment}
-use Rattle.response.proofs.Passing.{magnitude-passes, branch-passes}
-
-past-yield : {yield A : ℕ} → yield ≤ A → whole (pos yield) ≤F whole (pos A)
-past-yield {yield} {A} h = is-le (is-whole-one (pos yield)) (is-whole-one (pos A)) .1 (omega arith)
-
--- Laws 0 and 1.
-pub isotropic-solved : {E : ℕ} (E-pos : 0 < E) {curve : Curve} → CurvePasses E curve → (first second trial : ℤ)
-    → curve .yield ≤ natAbs first
-    → Solved E (isotropicConditions E E-pos curve trial (natAbs first) second) (inFirst (isotropicMoved E curve first trial) second)
-unfolding isotropicMoved
-isotropic-solved {E} E-pos {curve} good first second trial h =
-    let A = whole (pos (natAbs first)) in
-    let hardens = curve-hardens E-pos good in
-    let past = past-yield h in
-    let m = isotropic (sideOf E E-pos curve) (whole trial) A in
-    let solution = isotropic-solves hardens (whole trial) A past in
-    let high = limit-positive hardens past in
-    let stored = isotropicStored (limitAt E curve) trial (natAbs first) in
-    let floor = curve-rounded E-pos curve in
-    let passes = Iff·trans (isotropic-rounded hardens floor past trial solution .1) (isotropic-grows hardens past solution) in
-    let branches = branch-passes high high trial (stored .yielded) (Iff·trans passes (magnitude-passes high trial)) in
-    record {
-      exists = (record { stress = m .stress; abscissa = m .variable }, solution);
-      unique = λ x y s s′. isotropic-unique hardens s s′;
-      rounded = λ x s. (stored .abscissa, refl, refl, isotropic-rounded hardens floor past trial s .0);
-      only = λ x s o (a, a-is, second-is, r).
-          let (stress-is, same) = isotropic-rounded-unique r (isotropic-rounded hardens floor past trial s .0) in
-          (stress-is, a-is ∙ ap pos same, second-is);
-      grows = λ x s. isotropic-rounded hardens floor past trial s .1;
-      passes = passes;
-      tension = branches .0;
-      compression = branches .1;
-      tangent-still = tangent-still E curve first trial;
-      tangent-tension = tangent-of-segment E curve first trial h 0;
-      tangent-compression = tangent-of-segment E curve first trial h 1;
-    }
-
-less-same : {R x y : Frac} → x ≈F y → (R <F x) ↔ (R <F y)
-less-same e = (λ l. <F-≤F-trans l (≤F-of-≈F e), λ l. <F-≤F-trans l (≤F-of-≈F (≈F-sym e)))
-
--- Law 2.
-pub kinematic-solved : {E : ℕ} (E-pos : 0 < E) {tangent : ℕ} (below : tangent < E) {yield : ℕ} → 0 < yield → (first second trial : ℤ)
-    → Solved E (kinematicConditions E tangent below yield trial first second) (inFirst (kinematicMoved E tangent yield first trial) second)
-unfolding kinematicMoved
-kinematic-solved {E} E-pos {tangent} below {yield} yield-pos first second trial =
-    let positive = is-lt (is-whole-one (pos 0)) (is-whole-one (pos yield)) .1 (omega arith) in
-    let distance = whole-sub trial first in
-    let m = kinematic E tangent E-pos (whole (pos yield)) (whole trial) (whole first) in
-    let solution = kinematic-solves {below = below} positive E-pos (whole trial) (whole first) in
-    let passes = Iff·trans (kinematic-rounded E-pos yield-pos trial first solution .1) (kinematic-grows positive solution) in
-    let stored = kinematicStored E tangent yield trial first in
-    let branches = branch-passes positive positive (trial -ℤ first) (stored .yielded)
-    (Iff·trans passes (Iff·trans (less-same (abs-same distance)) (magnitude-passes positive (trial -ℤ first)))) in
-    record {
-      exists = (record { stress = m .stress; centre = m .variable; growth = absF (whole trial -F m .stress) }, solution);
-      unique = λ x y s s′. kinematic-unique positive s s′;
-      rounded = λ x s. (refl, kinematic-rounded E-pos yield-pos trial first s .0);
-      only = λ x s o (second-is, r).
-          let (stress-is, first-is) = kinematic-rounded-unique r (kinematic-rounded E-pos yield-pos trial first s .0) in
-          (stress-is, first-is, second-is);
-      grows = λ x s. kinematic-rounded E-pos yield-pos trial first s .1;
-      passes = passes;
-      tension = Iff·trans (branches .0) (less-same (≈F-sym distance));
-      compression = Iff·trans (branches .1) (less-same (neg-same (≈F-sym distance)));
-      tangent-still = λ e. rw (branch-still (stored .yielded) (trial -ℤ first) e);
-      tangent-tension = λ e. rw (branch-flows (stored .yielded) (trial -ℤ first) 0 e);
-      tangent-compression = λ e. rw (branch-flows (stored .yielded) (trial -ℤ first) 1 e);
-    }
+use Rattle.response.proofs.Passing.{branch-passes}
 
 -- Law 3's outcome has the numbers of flow's `asymmetricStored`.
 pub record AsStored (o : Outcome) (trial : ℤ) (stored : AsymmetricStored) : Type 0 where
@@ -111,93 +38,163 @@ pub record AsStored (o : Outcome) (trial : ℤ) (stored : AsymmetricStored) : Ty
   pub first : o .first ≡ pos (stored .tension)
   pub second : o .second ≡ pos (stored .compression)
 
-pub asymmetric-as-stored : (E : ℕ) (tension compression : Curve) (first second trial : ℤ) → isNeg first ≡ false → isNeg second ≡ false
-    → AsStored (asymmetricOutcome E tension compression first second trial) trial
-    (asymmetricStored (limitAt E tension) (limitAt E compression) trial (natAbs first) (natAbs second))
+asymmetric-as-stored : (E : ℕ) (tension compression : Curve) (A B : ℕ) (trial : ℤ)
+    → AsStored (asymmetricOutcome E tension compression (pos A) (pos B) trial) trial
+    (asymmetricStored (limitAt E tension) (limitAt E compression) trial A B)
 unfolding asymmetricOutcome isotropicMoved isotropicStored asymmetricStored
-asymmetric-as-stored E tension compression first second (pos m) h h′ =
-    record { yielded = refl; branch = refl; stress = refl; first = refl; second = sym (not-negative second h′) }
-asymmetric-as-stored E tension compression first second (negsuc m) h h′ =
-    record { yielded = refl; branch = refl; stress = refl; first = sym (not-negative first h); second = refl }
+asymmetric-as-stored E tension compression A B (pos m) = record { yielded = refl; branch = refl; stress = refl; first = refl; second = refl }
+asymmetric-as-stored E tension compression A B (negsuc m) = record { yielded = refl; branch = refl; stress = refl; first = refl; second = refl }
 
-asymmetric-tangents : (E : ℕ) (tension compression : Curve) (first second trial : ℤ) → tension .yield ≤ natAbs first
-    → compression .yield ≤ natAbs second
-    → let o = asymmetricOutcome E tension compression first second trial in
+asymmetric-tangents : (E : ℕ) (tension compression : Curve) (A B : ℕ) (trial : ℤ) → tension .yield ≤ A → compression .yield ≤ B
+    → let o = asymmetricOutcome E tension compression (pos A) (pos B) trial in
     (o .branch ≡ 0 → o .tangent ≡ E) × (o .branch ≡ 1 → SegmentTangent E tension (o .first) (o .tangent))
     × (o .branch ≡ 2 → SegmentTangent E compression (o .second) (o .tangent))
 unfolding asymmetricOutcome
-asymmetric-tangents E tension compression first second (pos m) h h′ = (
-  tangent-still E tension first (pos m),
-  tangent-of-segment E tension first (pos m) h 0,
-  λ e. absurd (isotropic-branch E tension first (pos m) false refl e),
+asymmetric-tangents E tension compression A B (pos m) h h′ = (
+  tangent-still E tension (pos A) (pos m),
+  tangent-of-segment E tension (pos A) (pos m) h 0,
+  λ e. absurd (isotropic-branch E tension (pos A) (pos m) false refl e),
 )
-asymmetric-tangents E tension compression first second (negsuc m) h h′ = (
-  tangent-still E compression second (negsuc m),
-  λ e. absurd (isotropic-branch E compression second (negsuc m) true refl e),
-  tangent-of-segment E compression second (negsuc m) h′ 1,
+asymmetric-tangents E tension compression A B (negsuc m) h h′ = (
+  tangent-still E compression (pos B) (negsuc m),
+  λ e. absurd (isotropic-branch E compression (pos B) (negsuc m) true refl e),
+  tangent-of-segment E compression (pos B) (negsuc m) h′ 1,
 )
 
-either-same : {A B C D : Type 0} → A ↔ C → B ↔ D → (A ⊎ B) ↔ (C ⊎ D)
-either-same e f = (⊎-elim (λ a. inl (e .0 a)) (λ b. inr (f .0 b)), ⊎-elim (λ c. inl (e .1 c)) (λ d. inr (f .1 d)))
+past-yield : {yield A : ℕ} → yield ≤ A → whole (pos yield) ≤F whole (pos A)
+past-yield {yield} {A} h = is-le (is-whole-one (pos yield)) (is-whole-one (pos A)) .1 (omega arith)
 
-pub asymmetric-solved : {E : ℕ} (E-pos : 0 < E) {tension compression : Curve} → CurvePasses E tension → CurvePasses E compression
-    → (first second trial : ℤ) → PastYield (tension .yield) first → PastYield (compression .yield) second
-    → Solved E (asymmetricConditions E E-pos tension compression trial (natAbs first) (natAbs second))
-    (asymmetricOutcome E tension compression first second trial)
-asymmetric-solved {E} E-pos {tension} {compression} good good′ first second trial h h′ =
-    let A = whole (pos (natAbs first)) in
-    let B = whole (pos (natAbs second)) in
-    let hardens = curve-hardens E-pos good in
-    let hardens′ = curve-hardens E-pos good′ in
-    let past = past-yield (h .past) in
-    let past′ = past-yield (h′ .past) in
-    let m = asymmetric (sideOf E E-pos tension) (sideOf E E-pos compression) (whole trial) A B in
-    let solution = asymmetric-solves hardens hardens′ (whole trial) A B past past′ in
-    let stored = asymmetricStored (limitAt E tension) (limitAt E compression) trial (natAbs first) (natAbs second) in
-    let same = asymmetric-as-stored E tension compression first second trial (h .not-negative) (h′ .not-negative) in
-    let tangents = asymmetric-tangents E tension compression first second trial (h .past) (h′ .past) in
-    let grown = asymmetric-grows hardens hardens′ past past′ solution in
-    let floor = curve-rounded E-pos tension in
-    let floor′ = curve-rounded E-pos compression in
-    let passes = Iff·trans (asymmetric-rounded hardens hardens′ floor floor′ past past′ trial solution .1) (either-same (grown .0) (grown .1)) in
-    let branches = branch-passes (limit-positive hardens past) (limit-positive hardens′ past′) trial (stored .yielded) passes in
-    record {
-      exists = (record { stress = m .stress; tension = m .tension; compression = m .compression }, solution);
-      unique = λ x y s s′. asymmetric-unique hardens hardens′ s s′;
-      rounded = λ x s. (
-        stored .tension,
-        stored .compression,
-        same .first,
-        same .second,
-        rw (same .stress) (asymmetric-rounded hardens hardens′ floor floor′ past past′ trial s .0),
-      );
-      only = λ x s o (a, b, a-is, b-is, r).
-          let (stress-is, same-a, same-b) = asymmetric-rounded-unique r (asymmetric-rounded hardens hardens′ floor floor′ past past′ trial s .0) in
-          (stress-is ∙ sym (same .stress), a-is ∙ ap pos same-a ∙ sym (same .first), b-is ∙ ap pos same-b ∙ sym (same .second));
-      grows = λ x s. rw (same .yielded) (asymmetric-rounded hardens hardens′ floor floor′ past past′ trial s .1);
-      passes = rw (same .yielded) passes;
-      tension = rw (same .branch) (branches .0);
-      compression = rw (same .branch) (branches .1);
-      tangent-still = tangents .0;
-      tangent-tension = tangents .1;
-      tangent-compression = tangents .2;
-    }
+past-whole : (yield : ℕ) (z : ℤ) → PastYield yield z → whole (pos yield) ≤F whole z
+past-whole yield (pos A) h = past-yield (h .past)
+past-whole yield (negsuc n) h = absurd (true≢false (h .not-negative))
 
--- The sheet's law, whichever it is.
-solved-under : (law : Law) (h : Sheet) → h .law ≡ law → (sound : SheetSound h) (first second trial : ℤ) → AbscissasPast law h first second
-    → Solved (h .modulus .0) (conditionsUnder law h sound first second trial) (outcomeUnder law h first second trial)
-unfolding outcomeUnder curveOf
-solved-under IsotropicLine h is sound first second trial past =
-    isotropic-solved (sound .modulus-least) (sound-passes (h .modulus .0) (h .tension) (sound .tension)) first second trial (past .past)
-solved-under IsotropicCurve h is sound first second trial past =
-    isotropic-solved (sound .modulus-least) (sound-passes (h .modulus .0) (h .tension) (sound .tension)) first second trial (past .past)
-solved-under Kinematic h is sound first second trial past =
-    kinematic-solved (sound .modulus-least) (sound .tension .tangents-below 0 (sound .tension .count-least))
-    (omega (arith, sound .tension .yield-least)) first second trial
-solved-under Asymmetric h is sound first second trial past =
-    asymmetric-solved (sound .modulus-least) (sound-passes (h .modulus .0) (h .tension) (sound .tension))
-    (sound-passes (h .modulus .0) (h .compression) (sound .compression is)) first second trial (past .0) (past .1)
+module _ (h : Sheet) (sound : SheetSound h) where
+  abbrev E : ℕ
+  E = h .modulus .0
 
-pub law-solved : (h : Sheet) (sound : SheetSound h) (first second trial : ℤ) → AbscissasPast (h .law) h first second
-    → Solved (h .modulus .0) (conditionsUnder (h .law) h sound first second trial) (outcomeOf h first second trial)
-law-solved h sound first second trial past = solved-under (h .law) h refl sound first second trial past
+  -- What an outcome has to be under a law: the rounding of each candidate that meets the conditions, yielded where p grows in it; its branch
+  -- follows from whether it yielded; and its tangent.
+  abbrev Left : Law → (trial first second : ℤ) → Outcome → Type 0
+  Left law trial first second o =
+      ((x : Candidate) → Meets h sound law trial first second x
+      → RoundsUnder h sound law trial first second x o × ((o .yielded ≡ true) ↔ Grows x))
+      × ((o .yielded ≡ true) ↔ Passes h sound law (whole trial) (whole first) (whole second)
+      → ((o .branch ≡ 1) ↔ PassesTension h sound law (whole trial) (whole first) (whole second))
+      × ((o .branch ≡ 2) ↔ PassesCompression h sound law (whole trial) (whole first) (whole second)))
+      × (o .branch ≡ 0 → o .tangent ≡ h .modulus .0) × (o .branch ≡ 1 → TangentTension h law o) × (o .branch ≡ 2 → TangentCompression h law o)
+
+  -- Laws 0 and 1.
+  isotropic-left : (trial : ℤ) (A : ℕ) (second : ℤ) → h .tension .«yield_stress» .0 ≤ A
+      → Left IsotropicLine trial (pos A) second (inFirst (isotropicMoved E (curveOf (h .tension)) (pos A) trial) second)
+  unfolding isotropicMoved curveOf
+  isotropic-left trial A second past =
+      let curve = curveOf (h .tension) in
+      let hardens = tension-hardens h sound in
+      let high = limit-positive hardens (past-yield past) in (
+        λ x (m, g, e).
+            let (rounded, yields) = isotropic-rounded hardens (curve-rounded (sound .modulus-least) curve) A (past-yield past) trial m in
+            ((rounded, refl), Iff·trans yields (difference-positive g)),
+        branch-passes high high trial (≈F-refl (whole trial)) (isotropicStored (limitAt E curve) trial A .yielded),
+        tangent-still E curve (pos A) trial,
+        tangent-of-segment E curve (pos A) trial past 0,
+        tangent-of-segment E curve (pos A) trial past 1,
+      )
+
+  -- Law 2.
+  kinematic-left : (trial X second : ℤ)
+      → Left Kinematic trial X second (inFirst (kinematicMoved E (tangentOf (h .tension) 0) (h .tension .«yield_stress» .0) X trial) second)
+  unfolding kinematicMoved
+  kinematic-left trial X second =
+      let yielded = kinematicStored E (tangentOf (h .tension) 0) (h .tension .«yield_stress» .0) trial X .yielded in
+      let positive = radius-positive h sound in (
+        λ x (m, e).
+            let (rounded, yields) = kinematic-rounded (sound .modulus-least) (omega (arith, sound .tension .yield-least)) trial X m in
+            ((rounded, refl), yields),
+        branch-passes positive positive (trial -ℤ X) (whole-sub trial X) yielded,
+        λ e. rw (branch-still yielded (trial -ℤ X) e),
+        λ e. rw (branch-flows yielded (trial -ℤ X) 0 e),
+        λ e. rw (branch-flows yielded (trial -ℤ X) 1 e),
+      )
+
+  -- Law 3.
+  asymmetric-left : h .law ≡ Asymmetric → (trial : ℤ) (A B : ℕ) → h .tension .«yield_stress» .0 ≤ A → h .compression .«yield_stress» .0 ≤ B
+      → Left Asymmetric trial (pos A) (pos B) (asymmetricOutcome E (curveOf (h .tension)) (curveOf (h .compression)) (pos A) (pos B) trial)
+  unfolding curveOf
+  asymmetric-left is trial A B past past′ =
+      let tension = curveOf (h .tension) in
+      let compression = curveOf (h .compression) in
+      let hardens = tension-hardens h sound in
+      let hardens′ = compression-hardens h sound is in
+      let p = past-yield past in
+      let p′ = past-yield past′ in
+      let same = asymmetric-as-stored E tension compression A B trial in
+      let (still, up, down) = asymmetric-tangents E tension compression A B trial past past′ in (
+        λ x (m, g).
+            let (rounded, yields) = asymmetric-rounded hardens hardens′ (curve-rounded (sound .modulus-least) tension)
+            (curve-rounded (sound .modulus-least) compression) A B p p′ trial m in
+            rw (same .yielded, same .stress, same .first, same .second) (rounded, Iff·trans yields (sides-grow m g)),
+        rw (same .yielded, same .branch)
+            (branch-passes (limit-positive hardens p) (limit-positive hardens′ p′) trial (≈F-refl (whole trial))
+            (asymmetricStored (limitAt E tension) (limitAt E compression) trial A B .yielded)),
+        still,
+        up,
+        down,
+      )
+
+  left-under : (law : Law) → h .law ≡ law → (trial first second : ℤ) → AbscissasPast law h first second
+      → Left law trial first second (outcomeUnder law h first second trial)
+  unfolding outcomeUnder
+  left-under IsotropicLine is trial (pos A) second p = isotropic-left trial A second (p .past)
+  left-under IsotropicLine is trial (negsuc n) second p = absurd (true≢false (p .not-negative))
+  left-under IsotropicCurve is trial (pos A) second p = isotropic-left trial A second (p .past)
+  left-under IsotropicCurve is trial (negsuc n) second p = absurd (true≢false (p .not-negative))
+  left-under Kinematic is trial X second p = kinematic-left trial X second
+  left-under Asymmetric is trial (pos A) (pos B) p = asymmetric-left is trial A B (p .0 .past) (p .1 .past)
+  left-under Asymmetric is trial (pos A) (negsuc n) p = absurd (true≢false (p .1 .not-negative))
+  left-under Asymmetric is trial (negsuc n) second p = absurd (true≢false (p .0 .not-negative))
+
+  -- The rounding of a candidate is one stress and two variables.
+  rounds-same : (law : Law) (trial first second : ℤ) (x : Candidate) (o o′ : Outcome) → RoundsUnder h sound law trial first second x o
+      → RoundsUnder h sound law trial first second x o′ → (o .stress ≡ o′ .stress) × (o .first ≡ o′ .first) × (o .second ≡ o′ .second)
+  rounds-same IsotropicLine trial A second x o o′ (r, e) (r′, e′) =
+      let (stress, first) = isotropic-rounded-unique r r′ in (stress, first, e ∙ sym e′)
+  rounds-same IsotropicCurve trial A second x o o′ (r, e) (r′, e′) =
+      let (stress, first) = isotropic-rounded-unique r r′ in (stress, first, e ∙ sym e′)
+  rounds-same Kinematic trial X second x o o′ (r, e) (r′, e′) =
+      let (stress, first) = kinematic-rounded-unique r r′ in (stress, first, e ∙ sym e′)
+  rounds-same Asymmetric trial A B x o o′ r r′ = asymmetric-rounded-unique r r′
+
+  past-under : (law : Law) (first second : ℤ) → AbscissasPast law h first second → PastUnder h sound law (whole first) (whole second)
+  unfolding curveOf
+  past-under IsotropicLine A second p = past-whole (h .tension .«yield_stress» .0) A p
+  past-under IsotropicCurve A second p = past-whole (h .tension .«yield_stress» .0) A p
+  past-under Kinematic X second p = tt
+  past-under Asymmetric A B p =
+      (past-whole (h .tension .«yield_stress» .0) A (p .0), past-whole (h .compression .«yield_stress» .0) B (p .1))
+
+  solved-under : (law : Law) → h .law ≡ law → (trial first second : ℤ) → AbscissasPast law h first second
+      → Solved h sound law trial first second (outcomeUnder law h first second trial)
+  solved-under law is trial first second p =
+      let past = past-under law first second p in
+      let o = outcomeUnder law h first second trial in
+      let solution = solutionUnder h sound law (whole trial) (whole first) (whole second) in
+      let meets = solution-meets h sound law is (whole trial) (whole first) (whole second) past in
+      let (left, branches, still, tension, compression) = left-under law is trial first second p in
+      let passes = Iff·trans (left solution meets .1) (grows-passes h sound law is (whole trial) (whole first) (whole second) solution past meets) in
+      record {
+        exists = (solution, meets);
+        unique = meets-same h sound law is (whole trial) (whole first) (whole second);
+        rounded = λ x m. left x m .0;
+        only = λ x m o′ r. rounds-same law trial first second x o′ o r (left x m .0);
+        grows = λ x m. left x m .1;
+        passes = passes;
+        tension = branches passes .0;
+        compression = branches passes .1;
+        tangent-still = still;
+        tangent-tension = tension;
+        tangent-compression = compression;
+      }
+
+pub law-solved : (h : Sheet) (sound : SheetSound h) (trial first second : ℤ) → AbscissasPast (h .law) h first second
+    → Solved h sound (h .law) trial first second (outcomeOf h first second trial)
+law-solved h sound trial first second past = solved-under h sound (h .law) refl trial first second past

@@ -6,50 +6,49 @@ use mathlib.Core.List.{[], _∷_}
 use mathlib.Core.Logic.{_⊎_, inl, inr, ⊎-elim, _↔_}
 use native.Mathlib.Omega.{arith}
 use lib.IntN.{ℤ, pos, negsuc}
-use Rattle.fractions.specs.Fraction.{Frac, _<F_, whole, negF, absF}
-use Rattle.fractions.proofs.Common.{is-whole, is-neg, is-lt, at-common}
-use Rattle.fractions.proofs.Arithmetic.{whole-abs, whole-neg}
+use Rattle.fractions.specs.Fraction.{Frac, _<F_, _≈F_, whole, negF}
+use Rattle.fractions.proofs.Common.{is-whole, is-neg, is-lt, is-eq, at-common}
 use Rattle.response.specs.Response.{branchOf}
 
-module _ {R : Frac} (high : whole (pos 0) <F R) where
-  not-above-negative : (n : ℕ) → ¬ (R <F whole (negsuc n))
-  not-above-negative n l =
-      at-common (R ∷ [])
-      (λ d ((_, _, r), _). omega (arith, is-lt r (is-whole (negsuc n) (r .some)) .0 l, is-lt (is-whole (pos 0) (r .some)) r .0 high))
+-- A trial of one sign passes no limit of the other.
+module _ {R u : Frac} (high : whole (pos 0) <F R) where
+  not-above-negative : (n : ℕ) → u ≈F whole (negsuc n) → ¬ (R <F u)
+  not-above-negative n e l =
+      at-common (R ∷ u ∷ [])
+      (λ d ((_, _, r), ((_, _, i), _)).
+      omega (arith, is-lt r i .0 l, is-eq i (is-whole (negsuc n) (r .some)) .0 e, is-lt (is-whole (pos 0) (r .some)) r .0 high))
 
-  not-above-negated : (n : ℕ) → ¬ (R <F negF (whole (pos n)))
-  not-above-negated n l =
-      at-common (R ∷ [])
-      (λ d ((_, _, r), _). omega (arith, is-lt r (is-neg (is-whole (pos n) (r .some))) .0 l, is-lt (is-whole (pos 0) (r .some)) r .0 high))
+  not-above-negated : (n : ℕ) → u ≈F whole (pos n) → ¬ (R <F negF u)
+  not-above-negated n e l =
+      at-common (R ∷ u ∷ [])
+      (λ d ((_, _, r), ((_, _, i), _)).
+      omega (arith, is-lt r (is-neg i) .0 l, is-eq i (is-whole (pos n) (r .some)) .0 e, is-lt (is-whole (pos 0) (r .some)) r .0 high))
 
-  -- The magnitude passes where the trial or its negation does.
-  pub magnitude-passes : (s : ℤ) → (R <F absF (whole s)) ↔ ((R <F whole s) ⊎ (R <F negF (whole s)))
-  magnitude-passes (pos n) = rw (whole-abs (pos n)) (λ l. inl l, ⊎-elim (λ l. l) (λ l. absurd (not-above-negated n l)))
-  magnitude-passes (negsuc n) =
-      rw (whole-abs (negsuc n), whole-neg (negsuc n)) (λ l. inr l, ⊎-elim (λ l. absurd (not-above-negative n l)) (λ l. l))
-
-module _ {R R′ : Frac} (high : whole (pos 0) <F R) (high′ : whole (pos 0) <F R′) where
+module _ {R R′ u : Frac} (high : whole (pos 0) <F R) (high′ : whole (pos 0) <F R′) where
   -- No trial passes both.
-  pub passes-one-limit : (s : ℤ) → R <F whole s → ¬ (R′ <F negF (whole s))
-  passes-one-limit (pos n) l l′ = not-above-negated high′ n l′
-  passes-one-limit (negsuc n) l l′ = not-above-negative high n l
+  pub passes-one-limit : R <F u → ¬ (R′ <F negF u)
+  passes-one-limit l l′ =
+      at-common (R ∷ R′ ∷ u ∷ [])
+      (λ d ((_, _, r), ((_, _, r′), ((_, _, i), _))).
+      let nought = is-whole (pos 0) (r .some) in
+      omega (arith, is-lt r i .0 l, is-lt r′ (is-neg i) .0 l′, is-lt nought r .0 high, is-lt nought r′ .0 high′))
 
-  -- A flow is that of the limit which the trial passes.
-  pub branch-passes : (s : ℤ) (yielded : Bool) → (yielded ≡ true) ↔ ((R <F whole s) ⊎ (R′ <F negF (whole s)))
-      → ((branchOf yielded s ≡ 1) ↔ (R <F whole s)) × ((branchOf yielded s ≡ 2) ↔ (R′ <F negF (whole s)))
-  branch-passes (pos n) true e = (
-    (λ b. ⊎-elim (λ l. l) (λ l. absurd (not-above-negated high′ n l)) (e .0 refl), λ l. refl),
-    (λ b. absurd (omega (arith, b)), λ l. absurd (not-above-negated high′ n l)),
+  -- A flow is that of the limit which the trial passes; u is the trial s, whatever its denominator.
+  pub branch-passes : (s : ℤ) → u ≈F whole s → (yielded : Bool) → (yielded ≡ true) ↔ ((R <F u) ⊎ (R′ <F negF u))
+      → ((branchOf yielded s ≡ 1) ↔ (R <F u)) × ((branchOf yielded s ≡ 2) ↔ (R′ <F negF u))
+  branch-passes (pos n) is true e = (
+    (λ b. ⊎-elim (λ l. l) (λ l. absurd (not-above-negated high′ n is l)) (e .0 refl), λ l. refl),
+    (λ b. absurd (omega (arith, b)), λ l. absurd (not-above-negated high′ n is l)),
   )
-  branch-passes (pos n) false e = (
+  branch-passes (pos n) is false e = (
     (λ b. absurd (omega (arith, b)), λ l. absurd (false≢true (e .1 (inl l)))),
     (λ b. absurd (omega (arith, b)), λ l. absurd (false≢true (e .1 (inr l)))),
   )
-  branch-passes (negsuc n) true e = (
-    (λ b. absurd (omega (arith, b)), λ l. absurd (not-above-negative high n l)),
-    (λ b. ⊎-elim (λ l. absurd (not-above-negative high n l)) (λ l. l) (e .0 refl), λ l. refl),
+  branch-passes (negsuc n) is true e = (
+    (λ b. absurd (omega (arith, b)), λ l. absurd (not-above-negative high n is l)),
+    (λ b. ⊎-elim (λ l. absurd (not-above-negative high n is l)) (λ l. l) (e .0 refl), λ l. refl),
   )
-  branch-passes (negsuc n) false e = (
+  branch-passes (negsuc n) is false e = (
     (λ b. absurd (omega (arith, b)), λ l. absurd (false≢true (e .1 (inl l)))),
     (λ b. absurd (omega (arith, b)), λ l. absurd (false≢true (e .1 (inr l)))),
   )

@@ -1,4 +1,5 @@
 pub mod Response
 pub mod Limits
 pub mod SideFlows
+pub mod Candidates
 pub mod Solved

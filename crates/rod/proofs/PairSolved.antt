@@ -13,7 +13,7 @@ use Rattle.law.specs.Laws.{numberOf}
 use Rattle.curve.specs.declared.Side.{Side}
 use Rattle.pair.specs.declared.Pair.{Pair}
 use Rattle.sheet.specs.declared.Sheet.{Sheet}
-use Rattle.response.specs.Solved.{Solved, conditionsUnder, PastYield, AbscissasPast}
+use Rattle.response.specs.Solved.{Solved, PastYield, AbscissasPast}
 use Rattle.response.proofs.Laws.{law-solved}
 use Rattle.rod.specs.declared.Rod.{Rod}
 use Rattle.rod.specs.Against.{pastYield, isotropicBelongs, asymmetricBelongs, belongsBy, belongs}
@@ -39,8 +39,8 @@ abscissas-past Asymmetric h r e =
     (past-yield-is (h .tension) (r .first .0) (sides .0), past-yield-is (h .compression) (r .second .0) (sides .1))
 
 pub pair-solved : {h : Sheet} {r : Rod} (accepted : Accepted h r) (p : Pair)
-    → Solved (h .modulus .0) (conditionsUnder (h .law) h (accepted .sound) (r .first .0) (r .second .0) (trialOf h r p)) (outcomeAfter h r p)
+    → Solved h (accepted .sound) (h .law) (trialOf h r p) (r .first .0) (r .second .0) (outcomeAfter h r p)
 unfolding belongs
 pair-solved {h} {r} accepted p =
-    law-solved h (accepted .sound) (r .first .0) (r .second .0) (trialOf h r p)
+    law-solved h (accepted .sound) (trialOf h r p) (r .first .0) (r .second .0)
     (abscissas-past (h .law) h r (both-hold (eqb (numberOf (r .law)) (numberOf (h .law))) _ (accepted .belongs) .1))

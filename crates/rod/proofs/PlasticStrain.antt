@@ -4,7 +4,7 @@ use mathlib.Core.Path.{_≡_, ap, _∙_}
 use native.Mathlib.Nat.{mul-zero}
 use native.Mathlib.Omega.{arith}
 use lib.IntN.{ℤ, pos, _+ℤ_, _-ℤ_, _*ℤ_, +ℤ-invr}
-use Rattle.fractions.proofs.Parts.{equal-parts, add-parts, sub-parts-ℤ}
+use Rattle.fractions.proofs.UpDown.{equal-parts, add-parts, sub-parts-ℤ}
 use Rattle.fractions.proofs.Ring.{*ℤ-+ℤ}
 use Rattle.pair.specs.declared.Pair.{Pair}
 use Rattle.sheet.specs.declared.Sheet.{Sheet}

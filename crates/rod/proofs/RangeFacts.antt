@@ -11,7 +11,7 @@ use Rattle.law.specs.declared.Law.{Law}
 use Rattle.law.specs.declared.Law.the-variants.{Kinematic}
 use Rattle.rod.specs.declared.Rod.{Rod}
 use Rattle.rod.specs.Variables.{abscissaRight, firstRight, secondRight}
-use Rattle.rod.specs.InRange.{countsRight, inRange}
+use Rattle.rod.specs.InRange.{countsRight, rodInRange}
 use Rattle.rod.proofs.VariableLaws.{abscissa-facts}
 
 pub record Ranged (r : Rod) : Type 0 where
@@ -22,8 +22,8 @@ pub record Ranged (r : Rod) : Type 0 where
   pub second : secondRight (r .law) (r .second .0) ≡ true
   pub counts : countsRight (r .yielded) (r .pairs) (r .«yielded_pairs») ≡ true
 
-pub ranged : (r : Rod) → inRange r ≡ true → Ranged r
-unfolding inRange
+pub ranged : (r : Rod) → rodInRange r ≡ true → Ranged r
+unfolding rodInRange
 ranged r e =
     let counts = both-hold _ (countsRight (r .yielded) (r .pairs) (r .«yielded_pairs»)) e in
     let second = both-hold _ (secondRight (r .law) (r .second .0)) (counts .0) in

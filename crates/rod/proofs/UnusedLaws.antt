@@ -13,7 +13,7 @@ use Rattle.sheet.specs.declared.Sheet.{Sheet}
 use Rattle.sheet.specs.Sound.{SheetSound}
 use Rattle.law.specs.Laws.{firstIsAbscissa, hasSecond}
 use Rattle.rod.specs.Variables.{abscissaRight, secondRight}
-use Rattle.rod.specs.InRange.{inRange}
+use Rattle.rod.specs.InRange.{rodInRange}
 use Rattle.rod.specs.Unused.{startOf, unusedOf}
 
 second-is-asymmetric : (law : Law) → hasSecond law ≡ true → law ≡ Asymmetric
@@ -41,8 +41,8 @@ module _ (h : Sheet) (sound : SheetSound h) where
   second : secondRight (h .law) (startOf (hasSecond (h .law)) (h .compression .«yield_stress» .0)) ≡ true
   second = second-starts (hasSecond (h .law)) (h .compression .«yield_stress» .0) (compression-most h sound)
 
-  pub unused-in-range : inRange (unusedOf h) ≡ true
-  unfolding inRange unusedOf
+  pub unused-in-range : rodInRange (unusedOf h) ≡ true
+  unfolding rodInRange unusedOf
   unused-in-range =
       let first = first-starts (firstIsAbscissa (h .law)) (h .tension .«yield_stress» .0) (sound .tension .yield-most) in
       rw (sound .reference-right, first, second)

@@ -8,16 +8,16 @@ use Rattle.pair.specs.Pairs as pairs
 use Rattle.sheet.specs.declared.Sheet.{Sheet}
 use Rattle.sheet.specs.Sound.{SheetSound}
 use Rattle.rod.specs.declared.Rod.{Rod}
-use Rattle.rod.specs.InRange.{inRange}
+use Rattle.rod.specs.InRange.{rodInRange}
 use Rattle.rod.specs.Against.{belongs}
 
 -- SPEC 7.14: what the laws use of a sheet that passes (SPEC 3.10), and a state in its ranges that 6 lets through, with n below 2 ^ 32.
 pub record Accepted (h : Sheet) (r : Rod) : Type 0 where
   pub sound : SheetSound h
-  pub in-range : inRange r ≡ true
+  pub in-range : rodInRange r ≡ true
   pub counted : r .pairs ≤ mostCount
   pub belongs : belongs h r ≡ true
 
 -- SPEC 7.14: a pair that passes 8.
 abbrev pub PairAccepted : Pair → Type 0
-PairAccepted p = pairs.inRange p ≡ true
+PairAccepted p = pairs.pairInRange p ≡ true

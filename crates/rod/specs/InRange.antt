@@ -12,8 +12,8 @@ abbrev pub countsRight : Bool → ℕ → ℕ → Bool
 countsRight yielded n k = leb k n && (not yielded || leb 1 k)
 
 -- SPEC 8.3: strain, temperature, stress, variables and counts, each in its range.
-unfoldable pub inRange : Rod → Bool
-inRange r =
+unfoldable pub rodInRange : Rod → Bool
+rodInRange r =
     around mostStrain (r .strain .0)
     && temperatureRight (r .temperature .0)
     && around mostStress (r .stress .0)

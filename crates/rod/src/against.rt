@@ -13,7 +13,7 @@ ghost use lib.IntN.{pos};
 ghost use lib.Signed.{leZ};
 ghost use Rattle.sheet.specs.Sound.{SheetSound};
 ghost use Rattle.response.specs.Limits.{limitOn, limitsOf, limitsUnder};
-ghost use Rattle.rod.specs.InRange.{inRange};
+ghost use Rattle.rod.specs.InRange.{rodInRange};
 ghost use Rattle.rod.specs.Against.{asymmetricBelongs, belongs, isotropicBelongs, kinematicBelongs, noSecond};
 
 // Whether a stress doesn't pass a yield limit. A stress away from the limit's side, of the other sign, never does.
@@ -61,7 +61,7 @@ fn isotropic(sheet: Sheet, rod: Rod, limit: Magnitude) -> bool
 }
 
 fn kinematic(sheet: Sheet, rod: Rod) -> bool
-    requires { ⌜ inRange rod ≡ true ⌝ }
+    requires { ⌜ rodInRange rod ≡ true ⌝ }
     requires centre { ⌜ rod .law ≡ Law.Kinematic ⌝ }
     ensures { λ r. ⌜ r ≡ kinematicBelongs sheet rod ⌝ }
 {
@@ -102,7 +102,7 @@ fn asymmetric(sheet: Sheet, rod: Rod, limits: Limits) -> bool
 
 // Whether the rod can be one of the sheet, from the limits at its variables.
 pub fn belongs(sheet: Sheet, rod: Rod, limits: Limits) -> bool
-    requires { ⌜ SheetSound sheet × (inRange rod ≡ true) ⌝ }
+    requires { ⌜ SheetSound sheet × (rodInRange rod ≡ true) ⌝ }
     requires limits { ⌜ limits ≡ limitsOf sheet (rod .first .0) (rod .second .0) ⌝ }
     ensures { λ r. ⌜ r ≡ belongs sheet rod ⌝ }
 {

@@ -11,7 +11,7 @@ use Rattle.ranges.specs.Ranges.{around, temperatureRight, mostStrain, mostStres
 use Rattle.bits.specs.Field.{signedIf}
 use Rattle.rod.specs.declared.Rod.{Rod}
 use Rattle.rod.specs.Variables.{firstRight, secondRight}
-use Rattle.rod.specs.InRange.{countsRight, inRange}
+use Rattle.rod.specs.InRange.{countsRight, rodInRange}
 use Rattle.state.specs.States.{zeroBits, stateOf, stateFieldRefusals}
 
 -- Tests joined from the first on.
@@ -53,12 +53,12 @@ otherTests r =
 abbrev pub tests : List ℕ → List Bool
 tests s = eqb (zeroBits s) 0 ∷ strainTest (stateOf s) ∷ otherTests (stateOf s)
 
-in-range-is : (r : Rod) → inRange r ≡ allOf (strainTest r) (otherTests r)
-unfolding inRange
+in-range-is : (r : Rod) → rodInRange r ≡ allOf (strainTest r) (otherTests r)
+unfolding rodInRange
 in-range-is r = refl
 
 module _ (s : List ℕ) where
-  failed : (k : ℕ) → getD (tests s) k true ≡ false → eqb (zeroBits s) 0 && inRange (stateOf s) ≡ false
+  failed : (k : ℕ) → getD (tests s) k true ≡ false → eqb (zeroBits s) 0 && rodInRange (stateOf s) ≡ false
   failed zero e = rw e
   failed (suc k) e =
       rw (in-range-is (stateOf s), one-false (strainTest (stateOf s)) (otherTests (stateOf s)) k e) (and-false (eqb (zeroBits s) 0))

@@ -21,7 +21,7 @@ use Rattle.bits.proofs.PutLaws.{length-bytesOf}
 use Rattle.bits.proofs.LayoutLaws.{Bytes, read-back, whole-back, whole-of-field, fieldsFrom, written-back}
 use Rattle.rod.specs.declared.Rod.{Rod}
 use Rattle.law.specs.Laws.{firstIsAbscissa}
-use Rattle.rod.specs.InRange.{inRange}
+use Rattle.rod.specs.InRange.{rodInRange}
 use Rattle.state.specs.States.{stateLayout, stateLength, zeroBits, stateOf, stateFieldRefusals, stateRefusals, stateValues, stateBytes, StateFits}
 use Rattle.rod.proofs.RangeFacts.{ranged, first-magnitude}
 use Rattle.state.proofs.StateLaws.{parts, fit}
@@ -34,7 +34,7 @@ Accepted s r = firstOf (stateRefusals s) (stateOf s) ≡ passes r
 pub record Passed (s : List ℕ) (r : Rod) : Type 0 where
   pub long : length s ≡ stateLength
   pub zeros : zeroBits s ≡ 0
-  pub ranges : inRange r ≡ true
+  pub ranges : rodInRange r ≡ true
   pub rod : stateOf s ≡ r
 
 module _ (s : List ℕ) (r : Rod) where
@@ -42,10 +42,10 @@ module _ (s : List ℕ) (r : Rod) where
   unfolding stateFieldRefusals stateRefusals
   accepted-passed e =
       let four = passes-line 4 (not (eqb (length s) stateLength)) (stateFieldRefusals s) (stateOf s) e in
-      let five = passes-line 5 (not (eqb (zeroBits s) 0 && inRange (stateOf s))) [] (stateOf s) (four .1) in
+      let five = passes-line 5 (not (eqb (zeroBits s) 0 && rodInRange (stateOf s))) [] (stateOf s) (four .1) in
       let rod = passes-none (stateOf s) (five .1) in
-      let both = both-hold (eqb (zeroBits s) 0) (inRange (stateOf s)) (not-false _ (five .0)) in
-      record { long = eqb-true _ _ (not-false _ (four .0)); zeros = eqb-true _ _ (both .0); ranges = ap inRange rod ∙ both .1; rod = sym rod }
+      let both = both-hold (eqb (zeroBits s) 0) (rodInRange (stateOf s)) (not-false _ (five .0)) in
+      record { long = eqb-true _ _ (not-false _ (four .0)); zeros = eqb-true _ _ (both .0); ranges = ap rodInRange rod ∙ both .1; rod = sym rod }
 
   pub passed-accepted : Passed s r → Accepted s r
   unfolding firstOf stateFieldRefusals stateRefusals
@@ -66,7 +66,7 @@ read-fits s =
     }
 
 -- and so does a rod in its ranges, where 64 bits hold its second variable and 32 bits its n.
-pub in-range-fits : (r : Rod) → inRange r ≡ true → Held 64 (r .second .0) → r .pairs < 2 ^ 32 → StateFits r
+pub in-range-fits : (r : Rod) → rodInRange r ≡ true → Held 64 (r .second .0) → r .pairs < 2 ^ 32 → StateFits r
 in-range-fits r e second n =
     let in-ranges = ranged r e in
     record {
@@ -106,7 +106,7 @@ module _ (r : Rod) (fits : StateFits r) where
       }
 
   -- The bytes of a rod in its ranges pass, and give that rod.
-  pub state-back : inRange r ≡ true → Accepted (stateBytes r) r
+  pub state-back : rodInRange r ≡ true → Accepted (stateBytes r) r
   unfolding stateBytes widths
   state-back e =
       let long = length-bytesOf stateLength (packed (parts r)) in

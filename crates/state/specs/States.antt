@@ -13,7 +13,7 @@ use Rattle.bits.specs.Layout.{widthAt, fieldAt, wholeAt, bitsAt, filled, packed
 use Rattle.rod.specs.declared.Rod.{Rod}
 use Rattle.state.specs.declared.StateRead.{StateRead}
 use Rattle.state.specs.declared.StateRead.the-variants.{Accepted, WrongLength, OutOfRange}
-use Rattle.rod.specs.InRange.{inRange}
+use Rattle.rod.specs.InRange.{rodInRange}
 
 -- SPEC 3.11: the bytes of a state.
 abbrev pub stateLength : ℕ
@@ -43,7 +43,7 @@ zeroBits s = fieldAt stateLayout s 2
 
 -- SPEC 8.3: 5 where a zero bit is set, or the rod isn't in its ranges.
 unfoldable pub stateFieldRefusals : List ℕ → List Refusal
-stateFieldRefusals s = refusal 5 (not (eqb (zeroBits s) 0 && inRange (stateOf s))) ∷ []
+stateFieldRefusals s = refusal 5 (not (eqb (zeroBits s) 0 && rodInRange (stateOf s))) ∷ []
 
 -- SPEC 8.2: 4 by the length, and then 5.
 unfoldable pub stateRefusals : List ℕ → List Refusal
