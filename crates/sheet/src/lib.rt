@@ -101,8 +101,8 @@ enum HeaderRead {
 
 // The segments of a side, and whether their lengths are right.
 struct SegmentsRead {
-    right: bool,
     segments: [Segment; curve::MOST_SEGMENTS],
+    right: bool,
 }
 
 fn most_tension(law: Law) -> u64
