@@ -1,9 +1,8 @@
 # make test: every check that the project has; the last line is the prover's own verdict.
 .PHONY: test checks demo bench check fmt
 
-test: checks
-	rt fmt --check
-	rt ci
+test:
+	@sh checks/test.sh
 
 # The archive held against document 01 in Rust, over fractions, and what the C programs say.
 checks:
