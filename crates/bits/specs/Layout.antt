@@ -28,6 +28,10 @@ fieldFrom start layout s k = field s (start + offset layout k) (widthAt layout k
 abbrev pub wholeAt : List ℕ → List ℕ → ℕ → ℤ
 wholeAt layout s k = twos (widthAt layout k) (fieldAt layout s k)
 
+-- the same where the layout begins at some bit,
+abbrev pub wholeFrom : (start : ℕ) → List ℕ → List ℕ → ℕ → ℤ
+wholeFrom start layout s k = twos (widthAt layout k) (fieldFrom start layout s k)
+
 -- and the bits that it is written as there.
 abbrev pub bitsAt : List ℕ → ℕ → ℤ → ℕ
 bitsAt layout k z = bitsOf (widthAt layout k) z

@@ -4,13 +4,13 @@
 use mathlib.Core.Path.{_≡_, sym, _∙_, ap}
 use mathlib.Core.List.{List, [], _∷_}
 use mathlib.Core.Logic.{_↔_}
-use Prim.Native.Nat.{ℕ, _+_, _*_, _≤_, _<_, min, max}
+use Prim.Native.Nat.{ℕ, zero, suc, _+_, _*_, _≤_, _<_, min, max}
 use native.Mathlib.Nat.{mul-add, mul-mul-mul-comm, mul-comm, mul-pos, mul-le-mul-left, mul-lt-mul-of-pos-left, le-of-mul-le-mul-left, lt-of-mul-lt-mul-left, eq-of-mul-eq-mul-left}
 use native.Mathlib.Decide.{decLe}
 use native.Mathlib.Omega.{arith}
 use lib.Dec.{lit<}
 use lib.IntN.{ℤ, pos, negsuc, natAbs, _*ℤ_}
-use Rattle.fractions.specs.Fraction.{Frac, _≤F_, _<F_, _≈F_, whole, _+F_, negF, _-F_, absF, signed, signedF, timesF, _*F_}
+use Rattle.fractions.specs.Fraction.{Frac, _≤F_, _<F_, _≈F_, whole, ratio, _+F_, negF, _-F_, absF, signed, signedF, timesF, _*F_}
 use Rattle.fractions.proofs.UpDown.{up, dn, equal-parts, add-parts, neg-parts, times-parts, mul-parts, le-parts, le-of-parts, lt-parts, lt-of-parts}
 
 -- x is (p - n) / d.
@@ -46,6 +46,10 @@ is-whole z h = record { some = h; same = omega arith }
 pub is-whole-one : (z : ℤ) → Is (whole z) (up z) (dn z) 1
 unfolding whole
 is-whole-one z = is-own (whole z)
+
+pub is-ratio : (z : ℤ) (d : ℕ) → 0 < d → Is (ratio z d) (up z) (dn z) d
+is-ratio z zero h = absurd (omega arith)
+is-ratio z (suc d) h = is-own (ratio z (suc d))
 
 pub is-add : {x y : Frac} {p n q m d : ℕ} → Is x p n d → Is y q m d → Is (x +F y) (p + q) (n + m) d
 unfolding _+F_

@@ -5,14 +5,14 @@ use mathlib.Core.Logic.{_↔_}
 use Prim.Native.Nat.{ℕ, _+_, _-_, _*_, _/_, _≤_, _<_}
 use native.Mathlib.Nat.{mul-div-le, lt-mul-div-succ, mul-le-mul-left, lt-of-mul-lt-mul-left, le-dest, mul-one}
 use native.Mathlib.Omega.{arith}
-use lib.IntN.{ℤ, pos, _+ℤ_, _-ℤ_}
-use lib.Signed.{_≤ℤ_}
+use lib.IntN.{ℤ, pos, negsuc, _+ℤ_, _-ℤ_}
+use lib.Signed.{_≤ℤ_, shrZ}
 use Rattle.fractions.specs.Fraction.{Frac, _≤F_, _<F_, _≈F_, whole, _+F_, _-F_, timesF}
-use Rattle.fractions.specs.Rounding.{Floor, Ceiling}
+use Rattle.fractions.specs.Rounding.{Floor, floorF, Ceiling}
 use Rattle.fractions.proofs.UpDown.{up, dn, add-parts, sub-parts-ℤ, le-of-parts, lt-parts}
 use Rattle.fractions.proofs.Order.{≤ℤ-antisym}
-use Rattle.fractions.proofs.Common.{Is, is-whole, is-whole-one, is-shift, is-add, is-sub, is-times, is-le, is-lt, at-common}
-use Rattle.fractions.proofs.Comparison.{≤F-of-≈F, ≈F-sym, ≤F-trans, ≤F-<F-trans, <F-≤F-trans, whole-le, whole-lt}
+use Rattle.fractions.proofs.Common.{Is, is-own, is-whole, is-whole-one, is-shift, is-add, is-sub, is-times, is-le, is-lt, at-common}
+use Rattle.fractions.proofs.Comparison.{≈F-refl, ≤F-of-≈F, ≈F-sym, ≤F-trans, ≤F-<F-trans, <F-≤F-trans, whole-le, whole-lt}
 
 module _ {x : Frac} {p n d : ℕ} (i : Is x p n d) (z : ℤ) where
   next : d * up (z +ℤ pos 1) + d * dn z ≡ d * up z + d + d * dn (z +ℤ pos 1)
@@ -83,6 +83,17 @@ ceiling-decides {x} {z} f a =
 pub floor-quotient : {x : Frac} {p d : ℕ} → Is x p 0 d → Floor x (pos (p / d))
 floor-quotient {x} {p} {d} i =
     is-floor i (pos (p / d)) .1 (omega (arith, mul-div-le p d), omega (arith, lt-mul-div-succ p (i .some)))
+
+-- The number that `floorF` computes is the floor.
+pub floor-is : (x : Frac) → Floor x (floorF x)
+floor-is x = is-floor (is-own x) (floorF x) .1 (divided (x .num) (x .den) (x .den-pos))
+  where
+    divided : (z : ℤ) (d : ℕ) → 0 < d → (d * up (shrZ z d) + dn z ≤ up z + d * dn (shrZ z d)) × (up z + d * dn (shrZ z d) < d * up (shrZ z d) + d + dn z)
+    divided (pos a) d h = (omega (arith, mul-div-le a d), omega (arith, lt-mul-div-succ a h))
+    divided (negsuc a) d h = (omega (arith, lt-mul-div-succ a h), omega (arith, mul-div-le a d))
+
+pub floor-only : {x : Frac} (z : ℤ) → Floor x z → z ≡ floorF x
+floor-only {x} z f = floor-unique z (floorF x) (≈F-refl x) f (floor-is x)
 
 -- A natural passes a fraction where it passes its floor; what it has beyond the floor is what it has beyond the fraction, rounded up.
 module _ {x : Frac} {R : ℕ} (f : Floor x (pos R)) (m : ℕ) where

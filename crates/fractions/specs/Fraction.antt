@@ -2,7 +2,7 @@
 -- this file; definitions only, nothing is assumed.
 use mathlib.Core.Bool.{Bool}
 use mathlib.Core.Path.{_≡_}
-use Prim.Native.Nat.{ℕ, _*_, _<_}
+use Prim.Native.Nat.{ℕ, zero, suc, _*_, _<_, zero-le, suc-le-suc}
 use native.Mathlib.Nat.{mul-pos}
 use lib.Dec.{lit<}
 use lib.IntN.{ℤ, pos, negsuc, negℤ, natAbs, _+ℤ_, _*ℤ_}
@@ -36,6 +36,11 @@ leF x y = leZ (pos (y .den) *ℤ x .num) (pos (x .den) *ℤ y .num)
 -- SPEC 2.5: a whole number is itself over 1.
 unfoldable pub whole : ℤ → Frac
 whole z = record { num = z; den = 1; den-pos = lit< tt }
+
+-- SPEC 2.5: a whole number over a natural one; over 0, which no use of it meets, it is the number itself.
+abbrev pub ratio : ℤ → ℕ → Frac
+ratio n zero = whole n
+ratio n (suc d) = record { num = n; den = suc d; den-pos = suc-le-suc zero-le }
 
 -- SPEC 2.6: the sum m / d + n / e = (e m + d n) / (d e).
 unfoldable pub _+F_ : Frac → Frac → Frac

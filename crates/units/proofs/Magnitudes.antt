@@ -1,13 +1,13 @@
--- The magnitude of a negated number, a sum, a difference and a multiple, and the sign of a number. Every proof of a signed function cites
+-- The magnitude of a negated number, a sum, a difference and a product, and the sign of a number. Every proof of a signed function cites
 -- this file. Assumes nothing.
 use Prim.Native.Nat.{ℕ, zero, suc, _+_, _-_, _*_, _≤_}
-use mathlib.Core.Path.{_≡_, refl, ap}
+use mathlib.Core.Path.{_≡_, refl, sym, ap}
 use mathlib.Core.Bool.{Bool, true, false, cond, true≢false}
 use native.Mathlib.Omega.{arith}
 use lib.Dec.{T, ltb}
 use lib.IntN.{ℤ, pos, negsuc, negℤ, natAbs, _+ℤ_, _-ℤ_, _*ℤ_}
-use lib.Signed.{ltZ, mag, nonNeg}
-use borrow.Author.Tests.{ltb-true, le-ltb}
+use lib.Signed.{leZ, ltZ, mag, nonNeg}
+use borrow.Author.Tests.{ltb-true, le-ltb, leb-true}
 use Rattle.units.specs.Signs.{isNeg}
 
 pub magnitude-negated : (z : ℤ) → natAbs (negℤ z) ≡ natAbs z
@@ -33,6 +33,11 @@ pub magnitude-multiple : (n : ℕ) (z : ℤ) → natAbs (pos n *ℤ z) ≡ n * n
 magnitude-multiple n (pos a) = refl
 magnitude-multiple n (negsuc a) = magnitude-negated (pos (n * suc a))
 
+pub magnitude-product : (x y : ℤ) → natAbs (x *ℤ y) ≡ natAbs x * natAbs y
+magnitude-product (pos n) y = magnitude-multiple n y
+magnitude-product (negsuc n) (pos m) = magnitude-negated (pos (suc n * m))
+magnitude-product (negsuc n) (negsuc m) = refl
+
 pub below-zero : (z : ℤ) → ltZ z (pos 0) ≡ isNeg z
 below-zero (pos n) = le-ltb n 0 (omega arith)
 below-zero (negsuc n) = refl
@@ -49,3 +54,10 @@ magnitude-below-zero (negsuc n) h = omega arith
 pub not-below-zero : (z : ℤ) → ltZ z (pos 0) ≡ false → T (nonNeg z)
 not-below-zero (pos n) h = tt
 not-below-zero (negsuc n) h = absurd (true≢false h)
+
+pub difference-not-negative : (x y : ℤ) → leZ y x ≡ true → T (nonNeg (x -ℤ y))
+difference-not-negative (pos a) (pos zero) h = tt
+difference-not-negative (pos a) (pos (suc b)) h = rw (le-ltb a (suc b) (leb-true (suc b) a h)) tt
+difference-not-negative (pos a) (negsuc b) h = tt
+difference-not-negative (negsuc a) (pos b) h = absurd (true≢false (sym h))
+difference-not-negative (negsuc a) (negsuc b) h = rw (le-ltb (suc b) (suc a) (omega (arith, leb-true a b h))) tt

@@ -3,11 +3,14 @@
 use Prim.Native.Nat.{ℕ, _+_, _*_, _^_, _≤_, _<_}
 use mathlib.Core.Path.{_≡_, _∙_, ap}
 use native.Mathlib.Omega.{arith}
-use lib.IntN.{ℤ, pos, negsuc, natAbs, _*ℤ_}
+use mathlib.Core.Bool.{true}
+use lib.Dec.{T}
+use lib.IntN.{ℤ, pos, negsuc, natAbs, _-ℤ_, _*ℤ_}
+use lib.Signed.{leZ, nonNeg, pos-natAbs}
 use mir.Syntax.{w64}
-use mir.Val.{SFits, toZ, ofZ}
-use mir.Facts.{toZ-ofZ, toZ-pos}
-use Rattle.units.proofs.Magnitudes.{magnitude-multiple}
+use mir.Val.{Fits, SFits, toZ, ofZ}
+use mir.Facts.{toZ-ofZ, toZ-pos, fits-natAbs}
+use Rattle.units.proofs.Magnitudes.{magnitude-difference, magnitude-multiple, difference-not-negative}
 
 pub fits-of-magnitude : (z : ℤ) → natAbs z < 2 ^ 63 → SFits w64 z
 fits-of-magnitude (pos n) h = record { sfits = h }
@@ -33,6 +36,19 @@ module _ (op : ℤ → ℤ → ℤ) (most : (x y : ℤ) → natAbs (op x y) ≤ 
 
   pub combined-in : {K : Type 0} (kind : ℤ → K) → (kind (stored (op (stored x) (stored y))) ≡ kind (op x y)) × (natAbs (stored (op (stored x) (stored y))) ≤ natAbs x + natAbs y)
   combined-in kind = (ap kind combined-is, rw combined-is (most x y))
+
+-- A difference that isn't negative, cast to an unsigned number.
+module _ (x y : ℤ) (h : natAbs x + natAbs y < 2 ^ 63) (order : leZ y x ≡ true) where
+  difference-is : stored (stored x -ℤ stored y) ≡ x -ℤ y
+  difference-is = combined-is _-ℤ_ magnitude-difference x y h
+
+  pub difference-cast-fits : T (nonNeg (stored (stored x -ℤ stored y))) × Fits w64 (natAbs (stored (stored x -ℤ stored y)))
+  difference-cast-fits =
+      rw difference-is
+      (difference-not-negative x y order, fits-natAbs tt (fits-of-magnitude (x -ℤ y) (omega (arith, magnitude-difference x y))))
+
+  pub difference-cast-is : pos (natAbs (stored (stored x -ℤ stored y))) ≡ x -ℤ y
+  difference-cast-is = rw difference-is (pos-natAbs (x -ℤ y) (difference-not-negative x y order))
 
 -- A multiple; the factor is cast from an unsigned number.
 module _ (n : ℕ) (z : ℤ) (fits : SFits w64 z) (h : (n < 2 ^ 63) × (n * natAbs z < 2 ^ 63)) where

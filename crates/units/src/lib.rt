@@ -3,6 +3,8 @@
 ghost use mathlib.Core.Path.{_≡_};
 ghost use Prim.Native.Nat.{_+_, _-_, _*_, _/_, _^_, _≤_, _<_};
 ghost use lib.Dec.{leb, ltb};
+ghost use mathlib.Core.Bool.{true};
+ghost use lib.Signed.{leZ, ltZ};
 ghost use lib.IntN.{pos, natAbs, _+ℤ_, _-ℤ_, _*ℤ_};
 ghost use Rattle.units.specs.Kinds.{nano, grain, tenths, lengthOf, magnitude};
 ghost use Rattle.units.specs.Signs.{isNeg, withSign};
@@ -80,6 +82,22 @@ impl Tenths {
     {
         let difference = self.0 - other.0;
         Tenths(difference)
+    }
+
+    pub fn below(self, other: Tenths) -> bool
+        ensures { λ r. ⌜ r ≡ ltZ (self .0) (other .0) ⌝ }
+    {
+        self.0 < other.0
+    }
+
+    // How many tenths it is above another temperature.
+    pub fn above(self, other: Tenths) -> u64
+        requires { ⌜ leZ (other .0) (self .0) ≡ true ⌝ }
+        requires room { ⌜ natAbs (self .0) + natAbs (other .0) < 2 ^ 63 ⌝ }
+        ensures { λ r. ⌜ pos r ≡ self .0 -ℤ other .0 ⌝ }
+    {
+        let excess = self.0 - other.0;
+        excess as u64
     }
 
     pub fn times(self, expansion: Expansion) -> Nano

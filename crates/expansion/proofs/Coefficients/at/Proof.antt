@@ -1,0 +1,95 @@
+-- `Coefficients::at` meets its contract. The loop keeps `Reached`: the coefficient lies behind the point before. Assumes nothing.
+use Prim.Native.Nat.{_-_, _≤_, _<_}
+use mathlib.Core.Path.{_≡_, sym, _∙_}
+use mathlib.Core.Bool.{true, false}
+use native.Mathlib.Omega.{arith}
+use lib.ListN.{length}
+use lib.Signed.{ltZ}
+use borrow.Author.Needs.{needs}
+use borrow.Author.Tests.{not-true, not-false}
+use Rattle.expansion.proofs.OrderTests.{told}
+use Rattle.expansion.proofs.PointRanges.{coefficient-most}
+use Rattle.expansion.proofs.PointsFrom.{pointAt, Reached, none, up-to-first, begun, before-next, onward, past-last, right-before}
+use Rattle.expansion.proofs.Coefficients.at.Statement.{statement}
+use Rattle.expansion.proofs.Coefficients.at.Tie as tie
+
+abbrev Inv-loop : tie.InvT-loop
+Inv-loop temperature self before₀ next₀ before next = Reached self (temperature .0) before next
+
+abbrev μ-loop : tie.MeasureT-loop
+μ-loop temperature self before₀ next₀ before next = self .count - next
+
+fits : (c : tie.Start Inv-loop μ-loop) → c .args .t1 .count ≤ length (c .args .t1 .points)
+fits c = omega (arith, c .pre .count-fits, c .pre .places)
+
+returns : tie.Need-returns Inv-loop μ-loop
+returns c =
+    let start = c .before .before in
+    (none (start .args .t1) (fits start) (omega (arith, c .before .if1 .taken)) (start .args .temperature .0), start .pre .single-most)
+
+returns-2 : tie.Need-returns-2 Inv-loop μ-loop
+returns-2 c =
+    let then = c .before in
+    let else = then .before .before .before in
+    let start = else .before in
+    let some : 0 < start .args .t1 .count = omega (arith, else .if1 .left) in
+    let test = sym (then .before .below .ensures) ∙ not-true _ (then .if2 .taken) in
+    (up-to-first (start .args .t1) (fits start) some (start .args .temperature .0) test, coefficient-most (pointAt (start .args .t1) 0) (start .pre .points-right 0 some))
+
+loop-holds : tie.Need-loop-holds Inv-loop μ-loop
+loop-holds c =
+    let else = c .before .before .before in
+    let start = else .before in
+    begun (start .args .t1) (fits start) (omega (arith, else .if1 .left)) (start .args .temperature .0) (sym (c .before .below .ensures) ∙ not-false _ (c .if2 .left))
+
+toward-requires : tie.Need-toward-requires Inv-loop μ-loop
+toward-requires c κs =
+    let turn = c .before .before .before in
+    let loop = turn .before .loop in
+    let start = turn .before .before .before .before .before .before in
+    let before : ltZ (start .args .temperature .0) (pointAt (start .args .t1) (loop .next) .temperature .0) ≡ true = search told in
+    ((loop .inv .reached, before), (right-before (start .pre) (loop .inv), start .pre .points-right (loop .next) (turn .loop-test .taken)))
+
+returns-3 : tie.Need-returns-3 Inv-loop μ-loop
+returns-3 c =
+    let turn = c .before .before .before .before in
+    let loop = turn .before .loop in
+    let start = turn .before .before .before .before .before .before in
+    let before : ltZ (start .args .temperature .0) (pointAt (start .args .t1) (loop .next) .temperature .0) ≡ true = search told in
+    (c .toward .ensures .0 ∙ before-next (start .args .t1) (fits start) (loop .inv) (turn .loop-test .taken) before, c .toward .ensures .1)
+
+loop-again : tie.Need-loop-again Inv-loop μ-loop
+loop-again c =
+    let turn = c .before .before .before in
+    let loop = turn .before .loop in
+    let start = turn .before .before .before .before .before .before in
+    let reached : ltZ (start .args .temperature .0) (pointAt (start .args .t1) (loop .next) .temperature .0) ≡ false = search told in
+    onward (start .args .t1) (fits start) (loop .inv) (turn .loop-test .taken) reached
+
+returns-4 : tie.Need-returns-4 Inv-loop μ-loop
+returns-4 c =
+    let after = c .before in
+    let inv = after .before .loop .inv in
+    let start = after .before .before .before .before .before .before in
+    (past-last (start .args .t1) (fits start) inv (after .loop-test .left), coefficient-most (after .before .loop .before) (right-before (start .pre) inv))
+
+pub at-spec : {M : Type 1} → statement M
+at-spec =
+    tie.close
+    (tie.spec
+    Inv-loop
+    μ-loop
+    returns
+    (λ c. search needs)
+    (λ c κs. search needs)
+    returns-2
+    loop-holds
+    (λ c. search needs)
+    (λ c. search needs)
+    (λ c κs. search needs)
+    toward-requires
+    returns-3
+    (λ c. search needs)
+    (λ c. search needs)
+    loop-again
+    returns-4)
