@@ -12,9 +12,11 @@ use Rattle.law.specs.Laws.{lawOf}
 use Rattle.curve.specs.Curve.{rise, height, limitAt, limitF}
 use Rattle.curve.specs.Tangent.{spans, tangentIn, tangentAt}
 use Rattle.curve.specs.Sides.{segmentsOf, curveOf}
-use Rattle.sheet.specs.Sheets.{allBelow, lengthWrong, sheetCountsRight, constantsRight, yieldsRight, headerRight, lengthsRight, tangentsRight, sheetFieldRefusals, sheetRefusals, segmentsIn, allPlaces, sheetOf}
+use Rattle.expansion.specs.Points.{temperaturesRise}
+use Rattle.expansion.specs.Coefficient.{coefficientIn}
+use Rattle.sheet.specs.Sheets.{allBelow, lengthWrong, sheetCountsRight, constantsRight, yieldsRight, headerRight, lengthsRight, pointsRight, tangentsRight, sheetFieldRefusals, sheetRefusals, listed, placed, sheetOf}
 use Rattle.sheet.specs.Thermal.{thermalOf}
-use Rattle.sheet.specs.Bytes.{segmentsBytes, sheetBytes}
+use Rattle.sheet.specs.Bytes.{allBytes, sheetBytes}
 use Rattle.pair.specs.Pairs.{pairInRange, pairOf, pairRefusals, pairBytes}
 use Rattle.flow.specs.CurveSide.{sideOf}
 use Rattle.flow.specs.Solution.{isotropic}
@@ -28,7 +30,7 @@ use Rattle.board.specs.Board.{Loop, board, softSteel, softPull, LoopRigh
 
 -- All nine rows.
 pub board-right : AllRight board
-unfolding board walk pairAnswer pairTable pairRefusals pairBytes pairInRange firstOf stepRefusals strainLeaves leavesRange advanceOf trialOf thermalOf unusedOf outcomeUnder isotropicMoved kinematicMoved asymmetricOutcome isotropicStored kinematicStored sideStored limitAt height rise tangentAt tangentIn spans curveOf segmentsOf allPlaces withinLimit field twos bitsOf widths packed bytesOf lawOf allBelow lengthWrong sheetCountsRight constantsRight yieldsRight headerRight lengthsRight tangentsRight sheetFieldRefusals sheetRefusals segmentsIn sheetOf segmentsBytes sheetBytes
+unfolding board walk pairAnswer pairTable pairRefusals pairBytes pairInRange firstOf stepRefusals strainLeaves leavesRange advanceOf trialOf thermalOf coefficientIn unusedOf outcomeUnder isotropicMoved kinematicMoved asymmetricOutcome isotropicStored kinematicStored sideStored limitAt height rise tangentAt tangentIn spans curveOf segmentsOf placed withinLimit field twos bitsOf widths packed bytesOf lawOf allBelow lengthWrong sheetCountsRight constantsRight yieldsRight headerRight lengthsRight pointsRight tangentsRight temperaturesRise sheetFieldRefusals sheetRefusals listed sheetOf allBytes sheetBytes
 board-right =
     (record { sheet-passes = refl; pairs-pass = refl; rows-right = refl }, (record { sheet-passes = refl; pairs-pass = refl; rows-right = refl }, (record { sheet-passes = refl; pairs-pass = refl; rows-right = refl }, (record { sheet-passes = refl; pairs-pass = refl; rows-right = refl }, (record { sheet-passes = refl; pairs-pass = refl; rows-right = refl }, (record { sheet-passes = refl; pairs-pass = refl; rows-right = refl }, (record { sheet-passes = refl; pairs-pass = refl; rows-right = refl }, (record { sheet-passes = refl; pairs-pass = refl; rows-right = refl }, (record { sheet-passes = refl; pairs-pass = refl; rows-right = refl }, tt)))))))))
 
@@ -36,5 +38,5 @@ board-right =
 pub last-fraction : isotropic (sideOf (softSteel .modulus .0) (lit< tt) (curveOf (softSteel .tension))) (whole (trialOf softSteel (unusedOf softSteel) (pairOf softPull)))
     (whole (unusedOf softSteel .first .0)) .stress
     ≈F record { num = pos 3000002; den = 3; den-pos = lit< tt }
-unfolding isotropic limitF height rise curveOf segmentsOf allPlaces leF whole _+F_ _-F_ negF absF signedF trialOf unusedOf thermalOf pairBytes field twos bitsOf widths packed bytesOf
+unfolding isotropic limitF height rise curveOf segmentsOf placed leF whole _+F_ _-F_ negF absF signedF trialOf unusedOf thermalOf coefficientIn pairBytes field twos bitsOf widths packed bytesOf
 last-fraction = record { cross = refl }

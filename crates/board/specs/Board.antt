@@ -16,7 +16,9 @@ use Rattle.ranges.specs.Ranges.{grains}
 use Rattle.units.specs.Kinds.{nano, tenths, lengthOf, magnitude, modulus, expansion}
 use Rattle.curve.specs.declared.Segment.{Segment}
 use Rattle.curve.specs.declared.Side.{Side}
-use Rattle.sheet.specs.Sheets.{allPlaces, sheetRefusals, sheetOf}
+use Rattle.curve.specs.Sides.{mostSegments, flat}
+use Rattle.expansion.specs.Points.{mostPoints, noPoint}
+use Rattle.sheet.specs.Sheets.{placed, sheetRefusals, sheetOf}
 use Rattle.sheet.specs.Bytes.{sheetBytes}
 use Rattle.sheet.specs.declared.Sheet.{Sheet}
 use Rattle.pair.specs.Pairs.{pairBytes}
@@ -30,19 +32,19 @@ segment length tangent = record { length = lengthOf length; tangent = modulus ta
 
 abbrev pub side : (yield : ℕ) → List Segment → Side
 side yield segments =
-    record { «yield_stress» = magnitude (yield * grains); count = length segments; segments = allPlaces segments }
+    record { «yield_stress» = magnitude (yield * grains); count = length segments; segments = placed mostSegments flat segments }
 
 -- SPEC 13.1: the reference temperature of the board's sheets, 20 degrees, which is our choice.
 abbrev pub reference : ℤ
 reference = pos 200
 
--- SPEC 13.1: a sheet of the board: E, its two sides, and the expansion that all of them have.
+-- SPEC 13.1: a sheet of the board: E, its two sides, and the single expansion that all of them have.
 abbrev pub sheet : Law → (E : ℕ) → (tension compression : Side) → Sheet
 sheet law E tension compression =
     record {
       law = law;
       modulus = modulus E;
-      expansion = expansion 1200;
+      expansion = record { single = expansion 1200; count = 0; points = placed mostPoints noPoint [] };
       reference = tenths reference;
       tension = tension;
       compression = compression;
@@ -147,8 +149,8 @@ rowsAs [] (row ∷ rows) = false
 rowsAs (x ∷ xs) [] = false
 rowsAs (x ∷ xs) (row ∷ rows) = rowAs x row && rowsAs xs rows
 
--- SPEC 13.2: a row of the board is right: its sheet, in bytes, passes 1 to 3 and reads back; its pairs are all accepted from the unused
--- rod; and each gives the expected row.
+-- SPEC 13.2: a row of the board is right: its sheet, in bytes, passes 1 to 3 and 13 and reads back; its pairs are all accepted from the
+-- unused rod; and each gives the expected row.
 pub record LoopRight (l : Loop) : Type 0 where
   pub sheet-passes : firstOf (sheetRefusals (sheetBytes (l .sheet))) (sheetOf (sheetBytes (l .sheet))) ≡ passes (l .sheet)
   pub pairs-pass : walk (l .sheet) (unusedOf (l .sheet)) (l .pairs) .number ≡ 0

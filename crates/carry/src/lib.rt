@@ -4,20 +4,26 @@ use pair::PairRead;
 use response::Limits;
 use rod::Rod;
 use rod::step::Stepped;
+use rod::step::Thermals;
 use row::Row;
 use sheet::Sheet;
+use units::Nano;
 ghost use mathlib.Core.Path.{_≡_};
+ghost use mathlib.Core.Bool.{true};
 ghost use Rattle.refusals.specs.Table.{firstOf};
+ghost use Rattle.ranges.specs.Ranges.{temperatureRight};
 ghost use Rattle.sheet.specs.Sound.{SheetSound};
 ghost use Rattle.rod.specs.Steps.{advanceOf, stepRefusals};
 ghost use Rattle.rod.specs.Accepted.{PairAccepted};
 ghost use Rattle.carry.specs.Walk.{pairAnswer};
-ghost use Rattle.carry.specs.Reaching.{reachedOf, triedMeaning, withLimits, Stands};
+ghost use Rattle.carry.specs.Reaching.{reachedOf, triedMeaning, withReached, Stands};
 
-// A rod with the yield limits at its variables (SPEC 7.12). They are found once and kept up from pair to pair.
+// A rod with the yield limits at its variables (SPEC 7.12) and the thermal strain at its temperature. They are found once and kept up from
+// pair to pair.
 pub struct Reached {
     pub rod: Rod,
     pub limits: Limits,
+    pub thermal: Nano,
 }
 
 // The rod after a pair, and the row of the pair.
@@ -34,26 +40,31 @@ pub enum Tried {
 
 impl Reached {
     pub fn of(sheet: Sheet, rod: Rod) -> Reached
-        requires { ⌜ SheetSound sheet ⌝ }
+        requires { ⌜ SheetSound sheet × (temperatureRight (rod .temperature .0) ≡ true) ⌝ }
         ensures { λ r. ⌜ r ≡ reachedOf sheet rod ⌝ }
     {
         let first = rod.first;
         let second = rod.second;
         let limits = Limits::of(sheet, first, second);
+        let thermal = sheet::thermal(sheet, rod.temperature);
         Reached {
             rod: rod,
             limits: limits,
+            thermal: thermal,
         }
     }
 
     // Tries a pair: 9, 11, 10 in that order, or the rod carried on.
     pub fn over(self, sheet: Sheet, pair: Pair) -> Tried
         requires { ⌜ Stands sheet self × PairAccepted pair ⌝ }
-        ensures { λ r. ⌜ triedMeaning r ≡ withLimits sheet (firstOf (stepRefusals sheet (self .rod) pair) (advanceOf sheet (self .rod) pair)) ⌝ }
+        ensures { λ r. ⌜ triedMeaning r ≡ withReached sheet (firstOf (stepRefusals sheet (self .rod) pair) (advanceOf sheet (self .rod) pair)) ⌝ }
     {
         let rod = self.rod;
         let limits = self.limits;
-        match rod.step(sheet, limits, pair) {
+        let before = self.thermal;
+        let after = sheet::thermal(sheet, pair.temperature);
+        let thermals = Thermals { before, after };
+        match rod.step(sheet, limits, thermals, pair) {
             Stepped::Advanced(advance) => {
                 let next = advance.rod;
                 let row = advance.row;
@@ -64,6 +75,7 @@ impl Reached {
                     to: Reached {
                         rod: next,
                         limits: reached,
+                        thermal: after,
                     },
                     row: row,
                 })
@@ -77,7 +89,7 @@ impl Reached {
     // Tries the pair in some bytes: 8, and then as above.
     pub fn over_bytes(self, sheet: Sheet, bytes: &[u8]) -> Tried
         requires { ⌜ Stands sheet self ⌝ }
-        ensures { λ r. ⌜ triedMeaning r ≡ withLimits sheet (pairAnswer sheet (self .rod) (now (bytes .entry))) ⌝ }
+        ensures { λ r. ⌜ triedMeaning r ≡ withReached sheet (pairAnswer sheet (self .rod) (now (bytes .entry))) ⌝ }
     {
         let PairRead::Accepted(pair) = pair::read(bytes) else {
             return Tried::Refused(8);

@@ -1,5 +1,5 @@
--- The pairs that a call accepted (SPEC 11.3, 11.6), from a sheet and a state that pass 1 to 6: the first j of them are a history, a run of
--- them hands its last state back, and the call wrote their rows.
+-- The pairs that a call accepted (SPEC 11.3, 11.6), from a sheet and a state that pass 1 to 6 and 13: the first j of them are a history, a
+-- run of them hands its last state back, and the call wrote their rows.
 use Prim.Native.Nat.{ℕ, suc, _+_, _*_, _/_, _%_, _≤_, _<_}
 use mathlib.Core.Path.{_≡_, refl, sym, ap, subst, _∙_}
 use mathlib.Core.Bool.{Bool, true, false, not, _||_, cond}
@@ -45,7 +45,7 @@ roomy-run j pairs rows next few p q n =
     let whole : pairLength * j % pairLength ≡ 0 = mul-mod-right pairLength j in
     rw (p, q, n, count, whole, le-ltb mostPairs j few, le-ltb (rowLength * j) (rowLength * j) (omega arith)) (refl, (refl, tt))
 
--- With these bytes the sheet meets none of 1 to 6.
+-- With these bytes the sheet meets none of 1 to 6 and 13.
 pub standing-passes : (sheet : List ℕ) → firstOf (sheetRefusals sheet) (sheetOf sheet) ≡ passes (sheetOf sheet)
     → (r : Rod) → StatePasses (sheetOf sheet) r → NoneApplies (standingRefusals sheet (stateBytes r))
 unfolding standingRefusals againstRefusals firstOf

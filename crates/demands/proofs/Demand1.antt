@@ -69,7 +69,7 @@ module _ (sheet state : List ℕ) (c : Call) where
   unfolding standingRefusals sheetRefusals sheetFieldRefusals stateRefusals states.stateFieldRefusals againstRefusals
   standing-number g =
       answer-number Some (standingRefusals sheet state) ready
-      ((λ z. omega (arith, z)), ((λ z. omega (arith, z)), ((λ z. omega (arith, z)), ((λ z. omega (arith, z)), ((λ z. omega (arith, z)), ((λ z. omega (arith, z)), tt))))))
+      ((λ z. omega (arith, z)), ((λ z. omega (arith, z)), ((λ z. omega (arith, z)), ((λ z. omega (arith, z)), ((λ z. omega (arith, z)), ((λ z. omega (arith, z)), ((λ z. omega (arith, z)), tt)))))))
       (given-refused (standingRefusals sheet state) ready g)
 
   pub call-number : {n : ℕ} → Given (callRefusals c) n → Some n
@@ -333,12 +333,12 @@ module _ (sheet state : List ℕ) (c : Call) where
   exactly number place =
       (λ is. subst (λ (t : ℕ × ℕ). Reason sheet state c (t .0) (t .1)) (λ i. (is .0 i, is .1 i)) own-reason, only-reason number place)
 
-  order : numbersOf (standingRefusals sheet state ++ callRefusals c) ≡ 1 ∷ 2 ∷ 3 ∷ 4 ∷ 5 ∷ 6 ∷ 7 ∷ 12 ∷ []
+  order : numbersOf (standingRefusals sheet state ++ callRefusals c) ≡ 1 ∷ 2 ∷ 3 ∷ 13 ∷ 4 ∷ 5 ∷ 6 ∷ 7 ∷ 12 ∷ []
   unfolding standingRefusals sheetRefusals sheetFieldRefusals stateRefusals states.stateFieldRefusals againstRefusals lengthRefusals listRefusals bufferRefusals
   order = by-kind (c .kind)
     where
       by-kind : (k : Kind)
-          → numbersOf (standingRefusals sheet state ++ lengthRefusals k (length (c .pairs)) (length (c .rows)) (length (c .next))) ≡ 1 ∷ 2 ∷ 3 ∷ 4 ∷ 5 ∷ 6 ∷ 7 ∷ 12 ∷ []
+          → numbersOf (standingRefusals sheet state ++ lengthRefusals k (length (c .pairs)) (length (c .rows)) (length (c .next))) ≡ 1 ∷ 2 ∷ 3 ∷ 13 ∷ 4 ∷ 5 ∷ 6 ∷ 7 ∷ 12 ∷ []
       by-kind single = refl
       by-kind run = refl
 
@@ -364,7 +364,7 @@ module _ (sheet state : List ℕ) (c : Call) where
 -- ---- The theorem
 
 module _ (sheet state : List ℕ) where
-  forecast-order : numbersOf (standingRefusals sheet state) ≡ 1 ∷ 2 ∷ 3 ∷ 4 ∷ 5 ∷ 6 ∷ []
+  forecast-order : numbersOf (standingRefusals sheet state) ≡ 1 ∷ 2 ∷ 3 ∷ 13 ∷ 4 ∷ 5 ∷ 6 ∷ []
   unfolding standingRefusals sheetRefusals sheetFieldRefusals stateRefusals states.stateFieldRefusals againstRefusals
   forecast-order = refl
 
@@ -372,7 +372,7 @@ module _ (sheet state : List ℕ) where
   unfolding forecastAnswer
   no-tangent n g = ap tangentTold (given-refused (standingRefusals sheet state) (forecastOf (sheetOf sheet) (stateOf state)) g)
 
-  unused-order : numbersOf (sheetRefusals sheet) ≡ 1 ∷ 2 ∷ 3 ∷ []
+  unused-order : numbersOf (sheetRefusals sheet) ≡ 1 ∷ 2 ∷ 3 ∷ 13 ∷ []
   unfolding sheetRefusals sheetFieldRefusals
   unused-order = refl
 

@@ -19,8 +19,8 @@ use Rattle.demands.proofs.Demand3.{all-within}
 pub demand-1 : (sheet state : List ℕ) → Answered sheet state
 demand-1 = all-answered
 
--- SPEC 9.12, 9.13, demand 2: for any sheet and state that pass 1 to 6, reachable or not, each pair that a call accepts leaves the roundings
--- of the one solution that the law's conditions have there, with the law's tangent.
+-- SPEC 9.12, 9.13, demand 2: for any sheet and state that pass 1 to 6 and 13, reachable or not, each pair that a call accepts leaves the
+-- roundings of the one solution that the law's conditions have there, with the law's tangent.
 pub demand-2 : (sheet state : List ℕ) → NoneApplies (standingRefusals sheet state)
     → (sound : SheetSound (sheetOf sheet)) × SolvedFrom sheet state sound
 demand-2 = all-solved

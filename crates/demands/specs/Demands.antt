@@ -94,7 +94,7 @@ pub record Written (r : Rod) (c : Call) (accepted : ℕ) (advances : List Advanc
 -- SPEC 9.11: number and place are those of the tables, and what is left follows from the stage.
 pub record CallAnswered (sheet state : List ℕ) (c : Call) : Type 0 where
   -- the lines stand in the order of SPEC 8.2
-  pub order : numbersOf (standingRefusals sheet state ++ callRefusals c) ≡ 1 ∷ 2 ∷ 3 ∷ 4 ∷ 5 ∷ 6 ∷ 7 ∷ 12 ∷ []
+  pub order : numbersOf (standingRefusals sheet state ++ callRefusals c) ≡ 1 ∷ 2 ∷ 3 ∷ 13 ∷ 4 ∷ 5 ∷ 6 ∷ 7 ∷ 12 ∷ []
   pub pair-order : (r : Rod) (pair : List ℕ) → numbersOf (pairTable (sheetOf sheet) r pair) ≡ 8 ∷ 9 ∷ 11 ∷ 10 ∷ []
   -- a number and a place are answered exactly where there is a reason for them
   pub exactly : (number place : ℕ)
@@ -119,11 +119,11 @@ pub record CallAnswered (sheet state : List ℕ) (c : Call) : Type 0 where
 pub record Answered (sheet state : List ℕ) : Type 0 where
   pub calls : (c : Call) → CallAnswered sheet state c
   -- SPEC 9.8: a forecast follows the standing lines, and tells tangent 0 beside a number
-  pub forecast-order : numbersOf (standingRefusals sheet state) ≡ 1 ∷ 2 ∷ 3 ∷ 4 ∷ 5 ∷ 6 ∷ []
+  pub forecast-order : numbersOf (standingRefusals sheet state) ≡ 1 ∷ 2 ∷ 3 ∷ 13 ∷ 4 ∷ 5 ∷ 6 ∷ []
   pub forecast : Follows (standingRefusals sheet state) (forecastOf (sheetOf sheet) (stateOf state)) (forecastAnswer sheet state)
   pub no-tangent : (n : ℕ) → Given (standingRefusals sheet state) n → tangentTold (forecastAnswer sheet state) ≡ 0
   -- SPEC 9.9: an unused rod follows the lines of the sheet, and leaves zero bytes beside a number
-  pub unused-order : numbersOf (sheetRefusals sheet) ≡ 1 ∷ 2 ∷ 3 ∷ []
+  pub unused-order : numbersOf (sheetRefusals sheet) ≡ 1 ∷ 2 ∷ 3 ∷ 13 ∷ []
   pub unused : Follows (sheetRefusals sheet) (stateBytes (unusedOf (sheetOf sheet))) (unusedAnswer sheet)
   pub no-state : (n : ℕ) → Given (sheetRefusals sheet) n → unusedLeft (unusedAnswer sheet) ≡ zeroState
 
@@ -166,12 +166,12 @@ pub record EachSolved (sheet : List ℕ) (sound : SheetSound (sheetOf sheet)) (s
   pub each : (j : ℕ) → j < acceptedIn sheet state c → SolvedAt sheet sound state c j
   -- The first of them is from the state that the call was given,
   pub starts : stateOf (stateIn sheet state c 0) ≡ stateOf state
-  -- every state on the way passes 1 to 6,
+  -- every state on the way passes 1 to 6 and 13,
   pub passing : (j : ℕ) → j ≤ acceptedIn sheet state c → NoneApplies (standingRefusals sheet (stateIn sheet state c j))
   -- and the last one is handed back.
   pub ends : stateOf (stateIn sheet state c (acceptedIn sheet state c)) ≡ stateOf (stateAfter sheet state c)
 
--- SPEC 9.12, 9.13: demand 2 whole, for a sheet and a state that pass 1 to 6.
+-- SPEC 9.12, 9.13: demand 2 whole, for a sheet and a state that pass 1 to 6 and 13.
 pub record SolvedFrom (sheet state : List ℕ) (sound : SheetSound (sheetOf sheet)) : Type 0 where
   pub calls : (c : Call) → EachSolved sheet sound state c
   pub range : (pair : List ℕ) → RangeDecided (sheetOf sheet) sound (stateOf state) pair

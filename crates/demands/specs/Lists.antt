@@ -72,13 +72,13 @@ module _ (sheet : List ℕ) where
 
   module _ (sound : SheetSound (sheetOf sheet)) where
     -- SPEC 11.8, 11.9: what holds at a stop: all lies within k grains of the bar that is fed the history, the counts are true, and the
-    -- state passes 1 to 6 with the sheet.
+    -- state passes 1 to 6 and 13 with the sheet.
     pub record Holds (s : Situation) : Type 0 where
       pub within : AtStop (sheetOf sheet) sound (s .history) (s .rows) (stateOf (s .state))
       pub standing : NoneApplies (standingRefusals sheet (s .state))
 
-    -- SPEC 11.8 to 11.11, of a call: it meets none of 1 to 6, all holds at each of its stops, and the states at its first and last stop are
-    -- the ones that it was given and hands on.
+    -- SPEC 11.8 to 11.11, of a call: it meets none of 1 to 6 and 13, all holds at each of its stops, and the states at its first and last
+    -- stop are the ones that it was given and hands on.
     pub record AtCall (s : Situation) (c : Call) : Type 0 where
       pub standing : NoneApplies (standingRefusals sheet (s .state))
       pub stops : (j : ℕ) → j ≤ acceptedIn (s .state) c → Holds (stopIn s c j)

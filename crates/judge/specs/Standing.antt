@@ -1,5 +1,5 @@
--- A sheet and a state judged together: refusals 1 to 6, the first stage of a call (SPEC 8.6, 8.9), cited by calls, logs and the demands;
--- definitions only, for any bytes, nothing is assumed.
+-- A sheet and a state judged together: refusals 1 to 6 and 13, the first stage of a call (SPEC 8.6, 8.9), cited by calls, logs and the
+-- demands; definitions only, for any bytes, nothing is assumed.
 use Prim.Native.Nat.{ℕ}
 use mathlib.Core.List.{List, _++_}
 use Rattle.refusals.specs.Table.{Refusal, Answer, numbered}
@@ -19,7 +19,7 @@ pub record Ready : Type 0 where
 abbrev pub readyOf : (sheet state : List ℕ) → Ready
 readyOf sheet state = record { sheet = sheetOf sheet; rod = stateOf state }
 
--- SPEC 8.6: the standing lines: 1 to 3 of the sheet, 4 and 5 of the state, 6 of the two together.
+-- SPEC 8.6: the standing lines: 1 to 3 and 13 of the sheet, 4 and 5 of the state, 6 of the two together.
 unfoldable pub standingRefusals : (sheet state : List ℕ) → List Refusal
 standingRefusals sheet state = sheetRefusals sheet ++ (stateRefusals state ++ againstRefusals (sheetOf sheet) (stateOf state))
 

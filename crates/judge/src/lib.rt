@@ -36,6 +36,7 @@ pub fn sheet_number(verdict: Verdict) -> u64
         Verdict::WrongLength => 1,
         Verdict::OutOfRange => 2,
         Verdict::WrongTangent => 3,
+        Verdict::UnorderedPoints => 13,
     }
 }
 
@@ -63,6 +64,7 @@ fn stopped(number: u64) -> Judged
         reached: Reached {
             rod: rod,
             limits: limits,
+            thermal: Nano(0),
         },
     }
 }

@@ -9,8 +9,10 @@ use Rattle.law.specs.Laws.{lawOf}
 use Rattle.curve.specs.Curve.{rise, height, limitAt}
 use Rattle.curve.specs.Sides.{segmentsOf, curveOf}
 use Rattle.curve.specs.Tangent.{spans, tangentIn, tangentAt}
-use Rattle.sheet.specs.Sheets.{allBelow, lengthWrong, sheetCountsRight, constantsRight, yieldsRight, headerRight, lengthsRight, tangentsRight, sheetFieldRefusals, sheetRefusals, segmentsIn, allPlaces, sheetOf}
+use Rattle.sheet.specs.Sheets.{allBelow, lengthWrong, sheetCountsRight, constantsRight, yieldsRight, headerRight, lengthsRight, pointsRight, tangentsRight, sheetFieldRefusals, sheetRefusals, listed, placed, sheetOf}
 use Rattle.sheet.specs.Thermal.{thermalOf}
+use Rattle.expansion.specs.Points.{temperaturesRise}
+use Rattle.expansion.specs.Coefficient.{coefficientIn}
 use Rattle.pair.specs.Pairs.{pairInRange, pairRefusals, listRefusals}
 use Rattle.row.specs.Rows.{rowBytes}
 use Rattle.flow.specs.Stored.{isotropicStored, sideStored}
@@ -40,5 +42,5 @@ pairs = 0 ∷ 22 ∷ 227 ∷ 96 ∷ 0 ∷ 200 ∷ 31 ∷ 210 ∷ 57 ∷ 64 ∷ 0
 
 pub third-row : textOf (sheet ++ state ++ pairs)
     ≡ ascii "pair stress plastic tangent yielded\n1 201000000000 99000000000 2000 1\n2 -202980000000 -97020000000 2000 1\nend 2\n"
-unfolding textOf toldOf toldBy logRefusals linesOf linesFrom lineOf lastLine numeral digitsWithin signedNumeral firstOf field twos bitsOf widths packed bytesOf lawOf rise height limitAt segmentsOf curveOf spans tangentIn tangentAt allBelow lengthWrong sheetCountsRight constantsRight yieldsRight headerRight lengthsRight tangentsRight sheetFieldRefusals sheetRefusals segmentsIn allPlaces sheetOf thermalOf pairInRange pairRefusals listRefusals rowBytes isotropicStored sideStored isotropicMoved outcomeUnder againstRefusals belongs isotropicBelongs withinLimit stateRefusals trialOf advanceOf strainLeaves leavesRange stepRefusals standingRefusals pairTable pairAnswer walk rowsBytes calls.pieces states.stateFieldRefusals rods.rodInRange
+unfolding textOf toldOf toldBy logRefusals linesOf linesFrom lineOf lastLine numeral digitsWithin signedNumeral firstOf field twos bitsOf widths packed bytesOf lawOf rise height limitAt segmentsOf curveOf spans tangentIn tangentAt allBelow lengthWrong sheetCountsRight constantsRight yieldsRight headerRight lengthsRight pointsRight tangentsRight temperaturesRise sheetFieldRefusals sheetRefusals listed placed sheetOf thermalOf coefficientIn pairInRange pairRefusals listRefusals rowBytes isotropicStored sideStored isotropicMoved outcomeUnder againstRefusals belongs isotropicBelongs withinLimit stateRefusals trialOf advanceOf strainLeaves leavesRange stepRefusals standingRefusals pairTable pairAnswer walk rowsBytes calls.pieces states.stateFieldRefusals rods.rodInRange
 third-row = refl

@@ -1,5 +1,6 @@
 pub mod WithinLimitLaws
 pub mod RangeFacts
+pub mod ThermalFacts
 pub mod VariableLaws
 pub mod UnusedLaws
 pub mod StepLaws

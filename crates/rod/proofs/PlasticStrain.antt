@@ -3,12 +3,13 @@ use Prim.Native.Nat.{ℕ}
 use mathlib.Core.Path.{_≡_, ap, _∙_}
 use native.Mathlib.Nat.{mul-zero}
 use native.Mathlib.Omega.{arith}
-use lib.IntN.{ℤ, pos, _+ℤ_, _-ℤ_, _*ℤ_, +ℤ-invr}
+use lib.IntN.{ℤ, pos, _+ℤ_, _-ℤ_, _*ℤ_}
 use Rattle.fractions.proofs.UpDown.{equal-parts, add-parts, sub-parts-ℤ}
 use Rattle.fractions.proofs.Ring.{*ℤ-+ℤ}
 use Rattle.pair.specs.declared.Pair.{Pair}
 use Rattle.sheet.specs.declared.Sheet.{Sheet}
 use Rattle.sheet.specs.Thermal.{thermalOf}
+use Rattle.sheet.proofs.ThermalLaws.{thermal-at-reference}
 use Rattle.rod.specs.declared.Rod.{Rod}
 use Rattle.rod.specs.Unused.{unusedOf}
 use Rattle.rod.specs.Steps.{strainAfter, trialOf, plasticOf, plasticAt}
@@ -61,5 +62,5 @@ plastic-change h r p stress =
     ∙ rest-change (old E (r .strain .0) (p .change .0) before after) (elastic E (r .strain .0) (p .change .0) before after) (r .stress .0) stress
 
 pub unused-plastic : (h : Sheet) → plasticAt h (unusedOf h) ≡ pos 0
-unfolding unusedOf thermalOf
-unused-plastic h = rw (+ℤ-invr (h .reference .0), mul-zero (h .expansion .0), mul-zero (h .modulus .0))
+unfolding unusedOf
+unused-plastic h = rw (thermal-at-reference h, mul-zero (h .modulus .0))

@@ -19,8 +19,14 @@ ghost use Rattle.ranges.specs.Ranges.{mostCount, mostStress};
 ghost use Rattle.units.specs.Kinds.{grain};
 ghost use Rattle.response.specs.Response.{mostTrial, responseMeaning};
 ghost use Rattle.response.specs.Limits.{limitsOf};
-ghost use Rattle.rod.specs.Steps.{advanceBy, advanceOf, bothPassedBy, leavesRange, stepMeaning, stepRefusals, trialOf};
+ghost use Rattle.rod.specs.Steps.{advanceBy, advanceOf, bothPassedBy, leavesRange, stepMeaning, stepRefusals, thermalsOf, trialOf};
 ghost use Rattle.rod.specs.Accepted.{Accepted, PairAccepted};
+
+// The thermal strains before and after a pair (SPEC 5.1). Each is found once and goes along with the rod.
+pub struct Thermals {
+    pub before: Nano,
+    pub after: Nano,
+}
 
 // The next state, with the row of the pair.
 pub struct Advance {
@@ -82,23 +88,25 @@ fn leaves_range(rod: Rod, response: Response) -> bool
 
 impl Rod {
     // The trial stress of a pair (SPEC 5.3).
-    fn trial(self, sheet: Sheet, pair: Pair) -> Grain
+    fn trial(self, sheet: Sheet, pair: Pair, thermals: Thermals) -> Grain
         requires { ⌜ Accepted sheet self × PairAccepted pair ⌝ }
+        requires thermals { ⌜ thermals ≡ thermalsOf sheet self pair ⌝ }
         ensures { λ r. ⌜ r ≡ grain (trialOf sheet self pair) ⌝ }
         ensures most { λ r. ⌜ natAbs (r .0) ≤ mostTrial ⌝ }
     {
         let modulus = sheet.modulus;
         let stress = self.stress;
-        let before = sheet::thermal(sheet, self.temperature);
-        let after = sheet::thermal(sheet, pair.temperature);
+        let before = thermals.before;
+        let after = thermals.after;
         let change = pair.change;
         let elastic = change.minus(after.minus(before));
         stress.plus(elastic.times(modulus))
     }
 
     // The next state and the row, from the new strain and what the law left.
-    fn advance(self, sheet: Sheet, pair: Pair, response: Response) -> Advance
+    fn advance(self, sheet: Sheet, pair: Pair, thermals: Thermals, response: Response) -> Advance
         requires { ⌜ Accepted sheet self × PairAccepted pair ⌝ }
+        requires thermals { ⌜ thermals ≡ thermalsOf sheet self pair ⌝ }
         requires room { ⌜ (natAbs (response .stress .0) ≤ mostStress) × (self .pairs + 1 ≤ mostCount) ⌝ }
         ensures { λ r. ⌜ r ≡ advanceBy sheet self pair (responseMeaning response) ⌝ }
     {
@@ -112,7 +120,7 @@ impl Rod {
         let modulus = sheet.modulus;
         let strain = self.strain.plus(pair.change);
         let temperature = pair.temperature;
-        let mechanical = strain.minus(sheet::thermal(sheet, temperature));
+        let mechanical = strain.minus(thermals.after);
         let plastic = mechanical.times(modulus).minus(stress);
         let pairs = self.pairs + 1;
         let yielded_pairs = self.yielded_pairs + bits::flag(yielded);
@@ -139,10 +147,12 @@ impl Rod {
         }
     }
 
-    // Carries the rod over one pair, or refuses it: 9, 11, 10 in that order. The limits are those at its variables.
-    pub fn step(self, sheet: Sheet, limits: Limits, pair: Pair) -> Stepped
+    // Carries the rod over one pair, or refuses it: 9, 11, 10 in that order. The limits are those at its variables, the thermal strains
+    // those at its temperature and the pair's.
+    pub fn step(self, sheet: Sheet, limits: Limits, thermals: Thermals, pair: Pair) -> Stepped
         requires { ⌜ Accepted sheet self × PairAccepted pair ⌝ }
         requires limits { ⌜ limits ≡ limitsOf sheet (self .first .0) (self .second .0) ⌝ }
+        requires thermals { ⌜ thermals ≡ thermalsOf sheet self pair ⌝ }
         ensures { λ r. ⌜ stepMeaning r ≡ firstOf (stepRefusals sheet self pair) (advanceOf sheet self pair) ⌝ }
     {
         let strain = self.strain.plus(pair.change);
@@ -151,7 +161,7 @@ impl Rod {
             .at_most(Nano(ranges::MOST_STRAIN).magnitude()) {
             return Stepped::StrainLeaves;
         }
-        let trial = self.trial(sheet, pair);
+        let trial = self.trial(sheet, pair, thermals);
         if both_passed(self, sheet, limits, trial) {
             return Stepped::BothFlow;
         }
@@ -162,6 +172,6 @@ impl Rod {
         if leaves_range(self, response) {
             return Stepped::OutOfRange;
         }
-        Stepped::Advanced(self.advance(sheet, pair, response))
+        Stepped::Advanced(self.advance(sheet, pair, thermals, response))
     }
 }

@@ -14,6 +14,9 @@ use Rattle.sheet.specs.declared.YieldsRead.the-variants as YieldsRead
 use Rattle.sheet.specs.declared.Header.{Header}
 use Rattle.sheet.specs.declared.HeaderRead.{HeaderRead}
 use Rattle.sheet.specs.declared.HeaderRead.the-variants as HeaderRead
+use Rattle.expansion.specs.declared.Point.{Point}
+use Rattle.sheet.specs.declared.PointRead.{PointRead}
+use Rattle.sheet.specs.declared.PointRead.the-variants as PointRead
 
 abbrev pub counts : Answers Counts CountsRead
 counts = record { value = CountsRead.Right; out = CountsRead.OutOfRange; held = elim [ CountsRead.Right x ↦ some x | CountsRead.OutOfRange ↦ none ]; held-value = λ x. refl; held-out = refl }
@@ -26,3 +29,6 @@ yields = record { value = YieldsRead.Right; out = YieldsRead.OutOfRange; held = 
 
 abbrev pub header : Answers Header HeaderRead
 header = record { value = HeaderRead.Right; out = HeaderRead.OutOfRange; held = elim [ HeaderRead.Right x ↦ some x | HeaderRead.OutOfRange ↦ none ]; held-value = λ x. refl; held-out = refl }
+
+abbrev pub point : Answers Point PointRead
+point = record { value = PointRead.Right; out = PointRead.OutOfRange; held = elim [ PointRead.Right x ↦ some x | PointRead.OutOfRange ↦ none ]; held-value = λ x. refl; held-out = refl }

@@ -2,3 +2,4 @@ pub mod SheetLaws
 pub mod AnswerCases
 pub mod Passed
 pub mod SideReadable
+pub mod ThermalLaws

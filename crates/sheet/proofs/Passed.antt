@@ -5,6 +5,7 @@ use mathlib.Core.Bool.{Bool, true, false, _||_, cond}
 use mathlib.Core.List.{List, [], _∷_, _++_}
 use borrow.Author.Tests.{leb-true, ltb-true, eqb-true, not-false, ne-eqb}
 use native.Mathlib.Decide.{decLt}
+use native.Mathlib.Nat.{zero-add}
 use native.Mathlib.Omega.{arith}
 use lib.Dec.{eqb, leb, ltb}
 use lib.ListN.{length, getD, replicate, length-append, length-replicate, List·getD-append}
@@ -15,12 +16,13 @@ use Rattle.ranges.specs.Ranges.{temperatureRight, mostModulus, mostExpansion, m
 use Rattle.law.specs.declared.Law.{Law}
 use Rattle.law.specs.declared.Law.the-variants.{Kinematic, Asymmetric}
 use Rattle.curve.specs.declared.Segment.{Segment}
-use Rattle.curve.specs.Sides.{flat, lengthAt, tangentOf}
+use Rattle.expansion.specs.Points.{mostPoints, noPoint, pointRight, temperaturesRise, Usable}
+use Rattle.curve.specs.Sides.{mostSegments, flat, lengthAt, tangentOf}
 use Rattle.bits.specs.Field.{within}
 use Rattle.sheet.specs.declared.Sheet.{Sheet}
-use Rattle.sheet.specs.Sheets.{lawIn, tensionCount, compressionCount, modulusIn, expansionIn, referenceIn, tensionYield, compressionYield, headerZeroBits, segmentLengthIn, segmentTangentIn, allBelow, mostTension, compressionOf, compressionYieldRight, lengthRight, tangentRight, sheetCountsRight, constantsRight, yieldsRight, headerRight, lengthsRight, tangentsRight, sheetFieldRefusals, sheetRefusals, segmentIn, segmentsIn, allPlaces, sideIn, sheetOf}
+use Rattle.sheet.specs.Sheets.{lawIn, tensionCount, compressionCount, pointCount, modulusIn, expansionIn, referenceIn, tensionYield, compressionYield, headerZeroBits, segmentLengthIn, segmentTangentIn, allBelow, mostTension, compressionOf, expansionRight, compressionYieldRight, lengthRight, tangentRight, sheetCountsRight, constantsRight, yieldsRight, headerRight, lengthsRight, tangentsRight, bothSides, segmentIn, pointIn, listed, placed, pointsIn, pointFieldsRight, pointsRight, sheetFieldRefusals, sheetRefusals, sideIn, sheetOf}
 use Rattle.sheet.specs.Sound.{SideSound, SheetSound}
-use Rattle.sheet.proofs.SheetLaws.{few-segments, length-segmentsIn}
+use Rattle.sheet.proofs.SheetLaws.{few-segments, length-listed, placed-first}
 
 -- The two bounds that a test within them shows.
 within-bounds : (least most x : ℕ) → within least most x ≡ true → (least ≤ x) × (x ≤ most)
@@ -37,35 +39,36 @@ all-below-holds test (suc n) i e h = by-place (both-hold (allBelow test n) (test
     by-place both before (yes l) = before (both .0) l
     by-place both before (no m) = let last : i ≡ n = omega arith in ap test last ∙ both .1
 
--- The segments of a side stand in their places.
-segment-at : (s : List ℕ) (first n i : ℕ) → i < n → getD (segmentsIn s first n) i flat ≡ segmentIn s (first + i)
-unfolding segmentsIn
-segment-at s first zero i h = absurd (omega arith)
-segment-at s first (suc n) i h = by-place (λ l. segment-at s first n i l) (decLt i n)
+-- Things that are listed stand in their places.
+listed-at : {A : Type 0} (at : ℕ → A) (empty : A) (first n i : ℕ) → i < n → getD (listed at first n) i empty ≡ at (first + i)
+unfolding listed
+listed-at at empty first zero i h = absurd (omega arith)
+listed-at at empty first (suc n) i h = by-place (λ l. listed-at at empty first n i l) (decLt i n)
   where
-    by-place : (i < n → getD (segmentsIn s first n) i flat ≡ segmentIn s (first + i)) → Dec (i < n)
-        → getD (segmentsIn s first n ++ (segmentIn s (first + n) ∷ [])) i flat ≡ segmentIn s (first + i)
+    by-place : (i < n → getD (listed at first n) i empty ≡ at (first + i)) → Dec (i < n)
+        → getD (listed at first n ++ (at (first + n) ∷ [])) i empty ≡ at (first + i)
     by-place before (yes l) =
-        List·getD-append (segmentsIn s first n) (segmentIn s (first + n) ∷ []) flat i (rw (length-segmentsIn s first n) l) ∙ before l
+        List·getD-append (listed at first n) (at (first + n) ∷ []) empty i (rw (length-listed at first n) l) ∙ before l
     by-place before (no m) =
         let last : i ≡ n = omega arith in
-        rw last (getD-at (segmentsIn s first n) (segmentIn s (first + n)) [] flat n (length-segmentsIn s first n))
+        rw last (getD-at (listed at first n) (at (first + n)) [] empty n (length-listed at first n))
 
-place-at : (s : List ℕ) (first n i : ℕ) → i < n → getD (allPlaces (segmentsIn s first n)) i flat ≡ segmentIn s (first + i)
-unfolding allPlaces
-place-at s first n i h =
-    List·getD-append (segmentsIn s first n) (replicate (7 - length (segmentsIn s first n)) flat) flat i (rw (length-segmentsIn s first n) h) ∙ segment-at s first n i h
+placed-at : {A : Type 0} (most : ℕ) (empty : A) (at : ℕ → A) (first n i : ℕ) → i < n → getD (placed most empty (listed at first n)) i empty ≡ at (first + i)
+unfolding placed
+placed-at most empty at first n i h =
+    List·getD-append (listed at first n) (replicate (most - length (listed at first n)) empty) empty i (rw (length-listed at first n) h) ∙ listed-at at empty first n i h
+
+-- So many places are there.
+placed-all : {A : Type 0} (most : ℕ) (empty : A) (at : ℕ → A) (first n : ℕ) → n ≤ most → length (placed most empty (listed at first n)) ≡ most
+unfolding placed
+placed-all most empty at first n h =
+    rw (length-append (listed at first n) (replicate (most - length (listed at first n)) empty), length-replicate (most - length (listed at first n)) empty, length-listed at first n) (omega arith)
 
 tangent-is : (s : List ℕ) (yield first n i : ℕ) → i < n → tangentOf (sideIn s yield first n) i ≡ segmentTangentIn s (first + i)
-tangent-is s yield first n i h = ap (λ (g : Segment). g .tangent .0) (place-at s first n i h)
+tangent-is s yield first n i h = ap (λ (g : Segment). g .tangent .0) (placed-at mostSegments flat (segmentIn s) first n i h)
 
 length-is : (s : List ℕ) (yield first n i : ℕ) → i < n → lengthAt (sideIn s yield first n) i ≡ segmentLengthIn s (first + i)
-length-is s yield first n i h = ap (λ (g : Segment). g .length .0) (place-at s first n i h)
-
-seven : (s : List ℕ) (first n : ℕ) → n ≤ 7 → length (allPlaces (segmentsIn s first n)) ≡ 7
-unfolding allPlaces
-seven s first n h =
-    rw (length-append (segmentsIn s first n) (replicate (7 - length (segmentsIn s first n)) flat), length-replicate (7 - length (segmentsIn s first n)) flat, length-segmentsIn s first n) (omega arith)
+length-is s yield first n i h = ap (λ (g : Segment). g .length .0) (placed-at mostSegments flat (segmentIn s) first n i h)
 
 -- A length that is right is at most the greatest.
 length-most : (s : List ℕ) (first n i : ℕ) → lengthRight s first n i ≡ true → segmentLengthIn s (first + i) ≤ mostLength
@@ -96,7 +99,7 @@ side-sound s yield first n some few y lengths tangents =
     record {
       count-least = some;
       count-most = few;
-      places = seven s first n few;
+      places = placed-all mostSegments flat (segmentIn s) first n few;
       yield-least = omega (arith, bounds .0);
       yield-most = omega (arith, bounds .1);
       tangents-below = λ i h. omega (arith, tangent-is s yield first n i h, kept i h .0);
@@ -105,6 +108,30 @@ side-sound s yield first n some few y lengths tangents =
           let falls : segmentTangentIn s (first + (i + 1)) ≤ segmentTangentIn s (first + (i + 1) - 1) = kept (i + 1) h .1 (omega arith) in
           omega (arith, tangent-is s yield first n (i + 1) h, tangent-is s yield first n i (omega arith), falls, ap (segmentTangentIn s) one-back);
       lengths-most = λ i h. omega (arith, length-is s yield first n i h, length-most s first n i (all-below-holds (lengthRight s first n) n i lengths h));
+    }
+
+-- The single expansion is at most the greatest, beside points and without.
+single-most : (points a : ℕ) → expansionRight points a ≡ true → a ≤ mostExpansion
+single-most points a = by-count (eqb points 0)
+  where
+    by-count : (t : Bool) → cond t (within 0 mostExpansion a) (eqb a 0) ≡ true → a ≤ mostExpansion
+    by-count true e = within-bounds 0 mostExpansion a e .1
+    by-count false e = let none = eqb-true a 0 e in omega arith
+
+-- The coefficients of a sheet whose counts, expansion and points are right.
+coefficients-usable : (s : List ℕ) → within 0 mostPoints (pointCount s) ≡ true → expansionRight (pointCount s) (expansionIn s) ≡ true
+    → pointsRight s ≡ true → temperaturesRise (pointsIn s) ≡ true → Usable (sheetOf s .expansion)
+unfolding sheetOf pointsRight
+coefficients-usable s few single points rise =
+    let n = pointCount s in
+    record {
+      count-fits = within-bounds 0 mostPoints n few .1;
+      places = placed-all mostPoints noPoint (pointIn s) 0 n (within-bounds 0 mostPoints n few .1);
+      single-most = single-most n (expansionIn s) single;
+      points-right = λ i h.
+          let fields = all-below-holds (pointFieldsRight s) n i points h in
+          ap pointRight (rw (zero-add i) at (placed-at mostPoints noPoint (pointIn s) 0 n i h)) ∙ both-hold (pointRight (pointIn s i)) _ fields .0;
+      rising = ap temperaturesRise (placed-first mostPoints noPoint (pointIn s) 0 n) ∙ rise;
     }
 
 one-of-kinematic : (law : Law) (n : ℕ) → within 1 (mostTension law) n ≡ true → law ≡ Kinematic → n ≡ 1
@@ -119,20 +146,21 @@ compression-there law n y c e a =
     (omega (arith, eqb-true n (compressionOf law) c, ap compressionOf a), rw a at e)
 
 -- The values of a sheet with every part right.
-values-sound : (s : List ℕ) → sheetCountsRight s ≡ true → constantsRight s ≡ true → yieldsRight s (lawIn s) ≡ true
-    → lengthsRight s 0 (tensionCount s) ≡ true → lengthsRight s (tensionCount s) (compressionCount s) ≡ true
-    → tangentsRight s 0 (tensionCount s) ≡ true → tangentsRight s (tensionCount s) (compressionCount s) ≡ true → SheetSound (sheetOf s)
+values-sound : (s : List ℕ) → sheetCountsRight s ≡ true → constantsRight s (pointCount s) ≡ true → yieldsRight s (lawIn s) ≡ true
+    → lengthsRight s 0 (tensionCount s) ≡ true → lengthsRight s (tensionCount s) (compressionCount s) ≡ true → pointsRight s ≡ true
+    → tangentsRight s 0 (tensionCount s) ≡ true → tangentsRight s (tensionCount s) (compressionCount s) ≡ true → temperaturesRise (pointsIn s) ≡ true
+    → SheetSound (sheetOf s)
 unfolding sheetCountsRight constantsRight yieldsRight sheetOf
-values-sound s counts constants yields lengthsT lengthsC tangentsT tangentsC =
-    let counted = both-hold (within 1 (mostTension (lawIn s)) (tensionCount s)) (eqb (compressionCount s) (compressionOf (lawIn s))) counts in
-    let constant = three-hold (within 1 mostModulus (modulusIn s)) (within 0 mostExpansion (expansionIn s)) (temperatureRight (referenceIn s)) constants in
+values-sound s counts constants yields lengthsT lengthsC points tangentsT tangentsC rise =
+    let counted = three-hold (within 1 (mostTension (lawIn s)) (tensionCount s)) (eqb (compressionCount s) (compressionOf (lawIn s))) (within 0 mostPoints (pointCount s)) counts in
+    let constant = three-hold (within 1 mostModulus (modulusIn s)) (expansionRight (pointCount s) (expansionIn s)) (temperatureRight (referenceIn s)) constants in
     let yield = three-hold (eqb (headerZeroBits s) 0) (within 1 mostYield (tensionYield s)) (compressionYieldRight (lawIn s) (compressionYield s)) yields in
     let modulus = within-bounds 1 mostModulus (modulusIn s) (constant .0) in
     let some = within-bounds 1 (mostTension (lawIn s)) (tensionCount s) (counted .0) in
     record {
       modulus-least = modulus .0;
       modulus-most = modulus .1;
-      expansion-most = within-bounds 0 mostExpansion (expansionIn s) (constant .1) .1;
+      expansion = coefficients-usable s (counted .2) (constant .1) points rise;
       reference-right = constant .2;
       tension = side-sound s (tensionYield s) 0 (tensionCount s) (some .0) (few-segments s .0) (yield .1) lengthsT tangentsT;
       compression = λ a.
@@ -141,16 +169,17 @@ values-sound s counts constants yields lengthsT lengthsC tangentsT tangentsC =
       one-segment = one-of-kinematic (lawIn s) (tensionCount s) (counted .0);
     }
 
--- A sheet that passes 1 to 3 is the one that its bytes hold, and is sound.
+-- A sheet that passes is the one that its bytes hold, and is sound.
 pub passed-sound : (s : List ℕ) {h : Sheet} → firstOf (sheetRefusals s) (sheetOf s) ≡ passes h → (h ≡ sheetOf s) × SheetSound h
 unfolding sheetRefusals sheetFieldRefusals headerRight
 passed-sound s {h} e =
     let one = passes-line 1 _ _ _ e in
     let two = passes-line 2 _ _ _ (one .1) in
     let three = passes-line 3 _ _ _ (two .1) in
-    let same = passes-none (sheetOf s) (three .1) in
-    let fields = both-hold (headerRight s) _ (not-false _ (two .0)) in
-    let header = three-hold (sheetCountsRight s) (constantsRight s) (yieldsRight s (lawIn s)) (fields .0) in
+    let thirteen = passes-line 13 _ _ _ (three .1) in
+    let same = passes-none (sheetOf s) (thirteen .1) in
+    let fields = three-hold (headerRight s) (bothSides s (lengthsRight s)) (pointsRight s) (not-false _ (two .0)) in
+    let header = three-hold (sheetCountsRight s) (constantsRight s (pointCount s)) (yieldsRight s (lawIn s)) (fields .0) in
     let lengths = both-hold (lengthsRight s 0 (tensionCount s)) _ (fields .1) in
     let tangents = both-hold (tangentsRight s 0 (tensionCount s)) _ (not-false _ (three .0)) in
-    (same, subst SheetSound (sym same) (values-sound s (header .0) (header .1) (header .2) (lengths .0) (lengths .1) (tangents .0) (tangents .1)))
+    (same, subst SheetSound (sym same) (values-sound s (header .0) (header .1) (header .2) (lengths .0) (lengths .1) (fields .2) (tangents .0) (tangents .1) (not-false _ (thirteen .0))))

@@ -20,14 +20,20 @@ use Rattle.sheet.specs.declared.Header.{Header}
 use Rattle.sheet.specs.declared.HeaderRead.{HeaderRead}
 use Rattle.sheet.specs.declared.HeaderRead.the-variants as header
 use Rattle.sheet.specs.declared.SegmentsRead.{SegmentsRead}
+use Rattle.sheet.specs.declared.PointRead.{PointRead}
+use Rattle.sheet.specs.declared.PointRead.the-variants as point
+use Rattle.sheet.specs.declared.PointsRead.{PointsRead}
 use Rattle.sheet.specs.declared.SheetRead.{SheetRead}
 use Rattle.sheet.specs.declared.Verdict.the-variants as verdict
+use Rattle.expansion.specs.declared.Point.{Point}
+use Rattle.expansion.specs.Points.{mostPoints, noPoint}
 use Rattle.curve.specs.declared.Segment.{Segment}
-use Rattle.sheet.specs.Sheets.{lawIn, tensionCount, compressionCount, sheetCountsRight, modulusIn, expansionIn, referenceIn, tensionYield, compressionYield, constantsRight, yieldsRight, headerRight, lengthsRight, allPlaces, segmentsIn}
+use Rattle.curve.specs.Sides.{mostSegments, flat}
+use Rattle.sheet.specs.Sheets.{lawIn, tensionCount, compressionCount, pointCount, sheetCountsRight, modulusIn, expansionIn, referenceIn, tensionYield, compressionYield, constantsRight, yieldsRight, headerRight, lengthsRight, segmentsIn, placed, pointIn, pointsIn, pointFieldsRight, pointsRight}
 
 -- SPEC 3.7, 3.9: what stands in the header: law and counts; E, expansion and reference temperature; yields in grains; and all of it.
 abbrev pub countsOf : List ℕ → Counts
-countsOf s = record { law = lawIn s; tension = tensionCount s; compression = compressionCount s }
+countsOf s = record { law = lawIn s; tension = tensionCount s; compression = compressionCount s; points = pointCount s }
 
 abbrev pub constantsOf : List ℕ → Constants
 constantsOf s = record { modulus = modulus (modulusIn s); expansion = expansion (expansionIn s); reference = tenths (referenceIn s) }
@@ -42,8 +48,8 @@ headerOf s = record { counts = countsOf s; constants = constantsOf s; yields = y
 unfoldable pub countsIn : List ℕ → CountsRead
 countsIn s = cond (sheetCountsRight s) (counts.Right (countsOf s)) counts.OutOfRange
 
-unfoldable pub constantsIn : List ℕ → ConstantsRead
-constantsIn s = cond (constantsRight s) (constants.Right (constantsOf s)) constants.OutOfRange
+unfoldable pub constantsIn : List ℕ → (points : ℕ) → ConstantsRead
+constantsIn s points = cond (constantsRight s points) (constants.Right (constantsOf s)) constants.OutOfRange
 
 unfoldable pub yieldsIn : List ℕ → Law → YieldsRead
 yieldsIn s law = cond (yieldsRight s law) (yields.Right (yieldsOf s)) yields.OutOfRange
@@ -59,18 +65,28 @@ leastLength i count = cond (eqb (i + 1) count) 0 1
 unfoldable pub segmentsRead : List ℕ → ℕ → ℕ → SegmentsRead
 segmentsRead s first count =
     cond (lengthsRight s first count)
-    (record { right = true; segments = allPlaces (segmentsIn s first count) })
-    (record { right = false; segments = allPlaces [] })
+    (record { right = true; segments = segmentsIn s first count })
+    (record { right = false; segments = placed mostSegments flat [] })
 
--- SPEC 8.8: a sheet that is accepted, from its header and the segments of both sides.
-abbrev pub acceptedAs : Header → List Segment → List Segment → SheetRead
-acceptedAs n tension compression =
+-- SPEC 8.8: a point where its fields are right, and else "out of range",
+unfoldable pub pointRead : List ℕ → ℕ → PointRead
+pointRead s i = cond (pointFieldsRight s i) (point.Right (pointIn s i)) point.OutOfRange
+
+-- and all points where those of each are, and else none.
+unfoldable pub pointsRead : List ℕ → PointsRead
+pointsRead s =
+    cond (pointsRight s) (record { right = true; points = placed mostPoints noPoint (pointsIn s) })
+    (record { right = false; points = placed mostPoints noPoint [] })
+
+-- SPEC 8.8: a sheet that is accepted, from its header, the segments of both sides and the points.
+abbrev pub acceptedAs : Header → (tension compression : List Segment) → (points : List Point) → SheetRead
+acceptedAs n tension compression points =
     record {
       verdict = verdict.Accepted;
       sheet = record {
         law = n .counts .law;
         modulus = n .constants .modulus;
-        expansion = n .constants .expansion;
+        expansion = record { single = n .constants .expansion; count = n .counts .points; points = points };
         reference = n .constants .reference;
         tension = record { «yield_stress» = n .yields .tension; count = n .counts .tension; segments = tension };
         compression = record { «yield_stress» = n .yields .compression; count = n .counts .compression; segments = compression };

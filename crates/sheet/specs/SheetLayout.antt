@@ -3,9 +3,9 @@ use Prim.Native.Nat.{ℕ, _+_, _*_}
 use mathlib.Core.List.{List, [], _∷_}
 
 -- SPEC 3.7: the widths of the header's fields: law, tension segments, compression segments, E, expansion, reference temperature, tension
--- yield, compression yield, zero,
+-- yield, compression yield, zero, points,
 abbrev pub headerLayout : List ℕ
-headerLayout = 2 ∷ 3 ∷ 3 ∷ 20 ∷ 14 ∷ 16 ∷ 24 ∷ 24 ∷ 6 ∷ []
+headerLayout = 2 ∷ 3 ∷ 3 ∷ 20 ∷ 14 ∷ 16 ∷ 24 ∷ 24 ∷ 2 ∷ 4 ∷ []
 
 -- and the bytes that they take.
 abbrev pub headerLength : ℕ
@@ -19,18 +19,34 @@ segmentLayout = 28 ∷ 20 ∷ []
 abbrev pub segmentLength : ℕ
 segmentLength = 6
 
--- SPEC 3.8: the bytes of a sheet with so many segments.
-abbrev pub sheetLength : (segments : ℕ) → ℕ
-sheetLength segments = headerLength + segmentLength * segments
+-- SPEC 3.8: the widths of a point's fields: temperature, zero, coefficient,
+abbrev pub pointLayout : List ℕ
+pointLayout = 16 ∷ 2 ∷ 14 ∷ []
 
--- SPEC 3.8: the bit where segment i begins: behind the header and the segments before it.
+-- and the bytes that they take.
+abbrev pub pointLength : ℕ
+pointLength = 4
+
+-- SPEC 3.8: the bytes of a sheet with so many segments and points.
+abbrev pub sheetLength : (segments points : ℕ) → ℕ
+sheetLength segments points = headerLength + segmentLength * segments + pointLength * points
+
+-- SPEC 3.8: the bit where segment i begins: behind the header and the segments before it,
 abbrev pub segmentAt : ℕ → ℕ
 segmentAt i = 8 * (headerLength + segmentLength * i)
+
+-- and where point i begins: behind the header, all segments and the points before it.
+abbrev pub pointAt : (segments i : ℕ) → ℕ
+pointAt segments i = 8 * sheetLength segments i
 
 -- SPEC 3.7: no sheet counts more segments, right or wrong, since each count has three bits,
 abbrev pub mostCounted : ℕ
 mostCounted = 7 + 7
 
+-- nor more points, whose count has four,
+abbrev pub mostPointsCounted : ℕ
+mostPointsCounted = 15
+
 -- and none is longer.
 abbrev pub longestSheet : ℕ
-longestSheet = sheetLength mostCounted
+longestSheet = sheetLength mostCounted mostPointsCounted

@@ -1,11 +1,12 @@
--- What the laws use of a sheet that passes 1 to 3 (SPEC 3.10), cited by response, rod, carry, judge, accuracy and the demands; definitions
+-- What the laws use of a sheet that passes (SPEC 3.10), cited by response, rod, carry, judge, accuracy and the demands; definitions
 -- only, nothing is assumed. proofs/Passed shows it.
 use Prim.Native.Nat.{ℕ, _+_, _*_, _≤_, _<_}
 use mathlib.Core.Path.{_≡_}
 use mathlib.Core.Bool.{true}
 use lib.ListN.{length}
-use Rattle.ranges.specs.Ranges.{temperatureRight, mostModulus, mostExpansion, mostYield, mostLength, grains}
+use Rattle.ranges.specs.Ranges.{temperatureRight, mostModulus, mostYield, mostLength, grains}
 use Rattle.law.specs.declared.Law.the-variants.{Kinematic, Asymmetric}
+use Rattle.expansion.specs.Points.{Usable}
 use Rattle.curve.specs.declared.Side.{Side}
 use Rattle.curve.specs.Sides.{mostSegments, lengthAt}
 pub use Rattle.curve.specs.Sides.{tangentOf}
@@ -26,7 +27,7 @@ pub record SideSound (E : ℕ) (side : Side) : Type 0 where
 pub record SheetSound (h : Sheet) : Type 0 where
   pub modulus-least : 1 ≤ h .modulus .0
   pub modulus-most : h .modulus .0 ≤ mostModulus
-  pub expansion-most : h .expansion .0 ≤ mostExpansion
+  pub expansion : Usable (h .expansion)
   pub reference-right : temperatureRight (h .reference .0) ≡ true
   pub tension : SideSound (h .modulus .0) (h .tension)
   pub compression : h .law ≡ Asymmetric → SideSound (h .modulus .0) (h .compression)

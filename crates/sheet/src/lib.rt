@@ -5,6 +5,8 @@ use bits::Signed;
 use bits::Unsigned;
 use curve::Segment;
 use curve::Side;
+use expansion::Coefficients;
+use expansion::Point;
 use law::Law;
 use units::Expansion;
 use units::Length;
@@ -13,26 +15,28 @@ use units::Modulus;
 use units::Nano;
 use units::Tenths;
 ghost use mathlib.Core.Path.{_≡_};
-ghost use Prim.Native.Nat.{_*_, _≤_, _<_};
+ghost use Prim.Native.Nat.{_+_, _*_, _≤_, _<_};
 ghost use mathlib.Core.List.{[]};
-ghost use mathlib.Core.Bool.{true};
+ghost use mathlib.Core.Bool.{true, cond};
 ghost use lib.IntN.{natAbs};
+ghost use lib.Dec.{eqb};
 ghost use Rattle.refusals.specs.Table.{firstOf};
-ghost use Rattle.ranges.specs.Ranges.{temperatureRight};
+ghost use Rattle.ranges.specs.Ranges.{temperatureRight, mostExpansion};
 ghost use Rattle.bits.specs.Field.{unsignedIf, within};
 ghost use Rattle.units.specs.Kinds.{nano};
-ghost use Rattle.curve.specs.Sides.{mostSegments};
-ghost use Rattle.sheet.specs.SheetLayout.{segmentAt, mostCounted, longestSheet};
+ghost use Rattle.expansion.specs.Points.{mostPoints, noPoint};
+ghost use Rattle.curve.specs.Sides.{mostSegments, flat};
+ghost use Rattle.sheet.specs.SheetLayout.{segmentAt, pointAt, mostCounted, longestSheet};
 ghost use Rattle.sheet.specs.Sound.{SheetSound};
 ghost use Rattle.sheet.specs.Thermal.{thermalOf};
-ghost use Rattle.sheet.specs.Sheets.{mostTension, compressionOf, countedLength, segmentLengthIn, modulusIn, segmentTangentIn, tangentsRight, allPlaces, headerRight, sheetFieldRefusals, sheetRefusals, sheetOf, sheetReadMeaning};
-ghost use Rattle.sheet.specs.ReaderAnswers.{countsIn, constantsIn, yieldsIn, headerIn, headerOf, leastLength, segmentsRead, acceptedAs};
+ghost use Rattle.sheet.specs.Sheets.{mostTension, compressionOf, segmentCount, countedLength, segmentLengthIn, modulusIn, segmentTangentIn, tangentsRight, placed, headerRight, sheetFieldRefusals, sheetRefusals, sheetOf, sheetReadMeaning};
+ghost use Rattle.sheet.specs.ReaderAnswers.{countsOf, countsIn, constantsIn, yieldsIn, headerIn, headerOf, leastLength, segmentsRead, pointRead, pointsRead, acceptedAs};
 
 // What a sheet that passes says: yields in grains, lengths in nano, tangents and Young's modulus in MPa.
 pub struct Sheet {
     pub law: Law,
     pub modulus: Modulus,
-    pub expansion: Expansion,
+    pub expansion: Coefficients,
     pub reference: Tenths,
     pub tension: Side,
     pub compression: Side,
@@ -44,6 +48,7 @@ pub enum Verdict {
     WrongLength,
     OutOfRange,
     WrongTangent,
+    UnorderedPoints,
 }
 
 // What reading a sheet answers: the sheet says something only where the verdict is that it was accepted.
@@ -52,11 +57,12 @@ pub struct SheetRead {
     pub sheet: Sheet,
 }
 
-// The law, and how many segments each side has.
+// The law, how many segments each side has, and how many points there are.
 struct Counts {
     law: Law,
     tension: usize,
     compression: usize,
+    points: usize,
 }
 
 enum CountsRead {
@@ -64,7 +70,7 @@ enum CountsRead {
     OutOfRange,
 }
 
-// Young's modulus, the expansion and the reference temperature.
+// Young's modulus, the single expansion and the reference temperature.
 struct Constants {
     modulus: Modulus,
     expansion: Expansion,
@@ -102,6 +108,17 @@ enum HeaderRead {
 // The segments of a side, and whether their lengths are right.
 struct SegmentsRead {
     segments: [Segment; curve::MOST_SEGMENTS],
+    right: bool,
+}
+
+enum PointRead {
+    Right(Point),
+    OutOfRange,
+}
+
+// The points, and whether their fields are right.
+struct PointsRead {
+    points: [Point; expansion::MOST_POINTS],
     right: bool,
 }
 
@@ -152,15 +169,35 @@ fn read_counts(s: &[u8]) -> CountsRead
     ) else {
         return CountsRead::OutOfRange;
     };
+    let Unsigned::Value(points) = bits::read_unsigned(
+        s,
+        layout::POINT_COUNT_AT,
+        layout::POINT_COUNT_WIDTH,
+        0,
+        expansion::MOST_POINTS as u64,
+    ) else {
+        return CountsRead::OutOfRange;
+    };
     CountsRead::Right(Counts {
         law: law,
         tension: tension as usize,
         compression: compression as usize,
+        points: points as usize,
     })
 }
 
-fn read_constants(s: &[u8]) -> ConstantsRead
-    ensures { λ r. ⌜ r ≡ constantsIn (now (s .entry)) ⌝ }
+// The greatest single expansion: 0 beside points.
+fn most_expansion(points: usize) -> u64
+    ensures { λ r. ⌜ r ≡ cond (eqb points 0) mostExpansion 0 ⌝ }
+{
+    if points == 0 {
+        return ranges::MOST_EXPANSION;
+    }
+    0
+}
+
+fn read_constants(s: &[u8], points: usize) -> ConstantsRead
+    ensures { λ r. ⌜ r ≡ constantsIn (now (s .entry)) points ⌝ }
 {
     let Unsigned::Value(modulus) = bits::read_unsigned(
         s,
@@ -171,12 +208,13 @@ fn read_constants(s: &[u8]) -> ConstantsRead
     ) else {
         return ConstantsRead::OutOfRange;
     };
+    let most = most_expansion(points);
     let Unsigned::Value(expansion) = bits::read_unsigned(
         s,
         layout::EXPANSION_AT,
         layout::EXPANSION_WIDTH,
         0,
-        ranges::MOST_EXPANSION,
+        most,
     ) else {
         return ConstantsRead::OutOfRange;
     };
@@ -238,7 +276,8 @@ fn read_header(s: &[u8]) -> HeaderRead
     let CountsRead::Right(counts) = read_counts(s) else {
         return HeaderRead::OutOfRange;
     };
-    let ConstantsRead::Right(constants) = read_constants(s) else {
+    let points = counts.points;
+    let ConstantsRead::Right(constants) = read_constants(s, points) else {
         return HeaderRead::OutOfRange;
     };
     let law = counts.law;
@@ -291,7 +330,7 @@ fn read_tangent(s: &[u8], i: usize) -> u64
 }
 
 fn no_segments() -> [Segment; curve::MOST_SEGMENTS]
-    ensures { λ r. ⌜ r ≡ allPlaces [] ⌝ }
+    ensures { λ r. ⌜ r ≡ placed mostSegments flat [] ⌝ }
 {
     [Segment {
         length: Length(0),
@@ -325,6 +364,87 @@ fn read_segments(s: &[u8], first: usize, count: usize) -> SegmentsRead
     SegmentsRead {
         right: true,
         segments: segments,
+    }
+}
+
+// The bit where a point of the sheet begins, behind all segments.
+fn point_at(segments: usize, i: usize) -> usize
+    requires { ⌜ (segments ≤ mostCounted) × (i < mostPoints) ⌝ }
+    ensures { λ r. ⌜ r ≡ pointAt segments i ⌝ }
+    ensures most { λ r. ⌜ r ≤ 8 * longestSheet ⌝ }
+{
+    8 * (layout::HEADER_LENGTH + layout::SEGMENT_LENGTH * segments + layout::POINT_LENGTH * i)
+}
+
+fn read_point(s: &[u8], segments: usize, i: usize) -> PointRead
+    requires { ⌜ (segments ≤ mostCounted) × (i < mostPoints) ⌝ }
+    requires segments { ⌜ segments ≡ segmentCount (now s) ⌝ }
+    ensures { λ r. ⌜ r ≡ pointRead (now (s .entry)) i ⌝ }
+{
+    let at = point_at(segments, i);
+    let Signed::Value(temperature) = bits::read_signed(
+        s,
+        at + layout::POINT_TEMPERATURE_AT,
+        layout::POINT_TEMPERATURE_WIDTH,
+        ranges::LEAST_TEMPERATURE,
+        ranges::MOST_TEMPERATURE,
+    ) else {
+        return PointRead::OutOfRange;
+    };
+    let Unsigned::Value(coefficient) = bits::read_unsigned(
+        s,
+        at + layout::COEFFICIENT_AT,
+        layout::COEFFICIENT_WIDTH,
+        0,
+        ranges::MOST_EXPANSION,
+    ) else {
+        return PointRead::OutOfRange;
+    };
+    let Unsigned::Value(_) = bits::read_unsigned(
+        s,
+        at + layout::POINT_ZERO_AT,
+        layout::POINT_ZERO_WIDTH,
+        0,
+        0,
+    ) else {
+        return PointRead::OutOfRange;
+    };
+    PointRead::Right(Point {
+        temperature: Tenths(temperature),
+        coefficient: Expansion(coefficient),
+    })
+}
+
+fn no_points() -> [Point; expansion::MOST_POINTS]
+    ensures { λ r. ⌜ r ≡ placed mostPoints noPoint [] ⌝ }
+{
+    [Point {
+        temperature: Tenths(0),
+        coefficient: Expansion(0),
+    }; expansion::MOST_POINTS]
+}
+
+// The points, behind the segments that the counts say.
+fn read_points(s: &[u8], counts: Counts) -> PointsRead
+    requires { ⌜ (counts ≡ countsOf (now s)) × (counts .points ≤ mostPoints) ⌝ }
+    ensures { λ r. ⌜ r ≡ pointsRead (now (s .entry)) ⌝ }
+{
+    let segments = counts.tension + counts.compression;
+    let mut points = no_points();
+    let mut i = 0;
+    while i < counts.points {
+        let PointRead::Right(point) = read_point(s, segments, i) else {
+            return PointsRead {
+                right: false,
+                points: no_points(),
+            };
+        };
+        points[i] = point;
+        i += 1;
+    }
+    PointsRead {
+        right: true,
+        points: points,
     }
 }
 
@@ -364,7 +484,11 @@ fn refused(verdict: Verdict) -> SheetRead
         sheet: Sheet {
             law: Law::IsotropicLine,
             modulus: Modulus(0),
-            expansion: Expansion(0),
+            expansion: Coefficients {
+                single: Expansion(0),
+                count: 0,
+                points: no_points(),
+            },
             reference: Tenths(0),
             tension: nothing,
             compression: nothing,
@@ -372,20 +496,21 @@ fn refused(verdict: Verdict) -> SheetRead
     }
 }
 
-// A sheet whose header and segments were read.
+// A sheet whose header, segments and points were read.
 fn accepted(
     header: Header,
     tension: [Segment; curve::MOST_SEGMENTS],
     compression: [Segment; curve::MOST_SEGMENTS],
+    points: [Point; expansion::MOST_POINTS],
 ) -> SheetRead
-    ensures { λ r. ⌜ r ≡ acceptedAs header tension compression ⌝ }
+    ensures { λ r. ⌜ r ≡ acceptedAs header tension compression points ⌝ }
 {
     let counts = header.counts;
     let constants = header.constants;
     let yields = header.yields;
     let law = counts.law;
     let modulus = constants.modulus;
-    let expansion = constants.expansion;
+    let single = constants.expansion;
     let reference = constants.reference;
     let tension_yield = yields.tension;
     let compression_yield = yields.compression;
@@ -394,7 +519,11 @@ fn accepted(
         sheet: Sheet {
             law: law,
             modulus: modulus,
-            expansion: expansion,
+            expansion: Coefficients {
+                single: single,
+                count: counts.points,
+                points: points,
+            },
             reference: reference,
             tension: Side {
                 yield_stress: tension_yield,
@@ -410,8 +539,8 @@ fn accepted(
     }
 }
 
-// Refusals 2 and 3 where the header is right and was read.
-fn read_sides(s: &[u8], header: Header) -> SheetRead
+// Refusals 2, 3 and 13 where the header is right and was read.
+fn read_behind(s: &[u8], header: Header) -> SheetRead
     requires { ⌜ (headerRight (now s) ≡ true) × (header ≡ headerOf (now s)) ⌝ }
     ensures { λ r. ⌜ sheetReadMeaning r ≡ firstOf (sheetFieldRefusals (now (s .entry))) (sheetOf (now (s .entry))) ⌝ }
 {
@@ -420,8 +549,9 @@ fn read_sides(s: &[u8], header: Header) -> SheetRead
     let compressions = counts.compression;
     let tension = read_segments(s, 0, tensions);
     let compression = read_segments(s, tensions, compressions);
-    let lengths_right = tension.right & compression.right;
-    if !lengths_right {
+    let points = read_points(s, counts);
+    let fields_right = tension.right & compression.right & points.right;
+    if !fields_right {
         return refused(Verdict::OutOfRange);
     }
     let constants = header.constants;
@@ -434,17 +564,24 @@ fn read_sides(s: &[u8], header: Header) -> SheetRead
     }
     let tension_segments = tension.segments;
     let compression_segments = compression.segments;
-    accepted(header, tension_segments, compression_segments)
+    let all_points = points.points;
+    let read = accepted(header, tension_segments, compression_segments, all_points);
+    let sheet = read.sheet;
+    let coefficients = sheet.expansion;
+    if !coefficients.rise() {
+        return refused(Verdict::UnorderedPoints);
+    }
+    read
 }
 
-// Refusals 2 and 3, for bytes whose length is right.
+// Refusals 2, 3 and 13, for bytes whose length is right.
 fn read_fields(s: &[u8]) -> SheetRead
     ensures { λ r. ⌜ sheetReadMeaning r ≡ firstOf (sheetFieldRefusals (now (s .entry))) (sheetOf (now (s .entry))) ⌝ }
 {
     let HeaderRead::Right(header) = read_header(s) else {
         return refused(Verdict::OutOfRange);
     };
-    read_sides(s, header)
+    read_behind(s, header)
 }
 
 // How long a sheet is by its own counts, valid or not.
@@ -454,8 +591,10 @@ pub fn counted_length(s: &[u8]) -> usize
 {
     let tensions = bits::read(s, layout::TENSION_COUNT_AT, layout::COUNT_WIDTH);
     let compressions = bits::read(s, layout::COMPRESSION_COUNT_AT, layout::COUNT_WIDTH);
+    let points = bits::read(s, layout::POINT_COUNT_AT, layout::POINT_COUNT_WIDTH);
     let segments = (tensions + compressions) as usize;
-    layout::HEADER_LENGTH + layout::SEGMENT_LENGTH * segments
+    let points = points as usize;
+    layout::HEADER_LENGTH + layout::SEGMENT_LENGTH * segments + layout::POINT_LENGTH * points
 }
 
 // Reads any bytes: the sheet, or which refusal it gets.
@@ -479,6 +618,8 @@ pub fn thermal(sheet: Sheet, temperature: Tenths) -> Nano
     ensures most { λ r. ⌜ natAbs (r .0) ≤ 400000000 ⌝ }
 {
     let reference = sheet.reference;
-    let expansion = sheet.expansion;
-    temperature.minus(reference).times(expansion)
+    let coefficients = sheet.expansion;
+    temperature
+        .minus(reference)
+        .times(coefficients.at(temperature))
 }

@@ -11,6 +11,8 @@ use Rattle.sheet.specs.declared.Sheet.{Sheet}
 use Rattle.rod.specs.declared.Rod.{Rod}
 use Rattle.state.specs.States.{stateRefusals, stateOf, stateReadMeaning}
 use Rattle.rod.specs.Against.{againstRefusals}
+use Rattle.rod.specs.InRange.{rodInRange}
+use Rattle.rod.proofs.RangeFacts.{ranged}
 use Rattle.state.proofs.RoundTrip.{accepted-passed}
 use Rattle.carry.specs.declared.Reached.{Reached}
 use Rattle.judge.specs.declared.Judged.{Judged}
@@ -27,10 +29,16 @@ passed : (c : tie.After-known-told) → let state = start c .args .state .now in
     firstOf (stateRefusals state) (stateOf state) ≡ passes (c .before .rod .given .0 .0)
 passed c = sym (c .before .before .before .read .ensures) ∙ ap stateReadMeaning (c .before .rod .given .1)
 
+in-range : (c : tie.After-known-told) → rodInRange (c .before .rod .given .0 .0) ≡ true
+in-range c = accepted-passed (start c .args .state .now) _ (passed c) .ranges
+
+of-requires : tie.Need-of-requires
+of-requires c κs = (start c .pre, ranged (c .before .rod .given .0 .0) (in-range c) .temperature)
+
 belongs-requires : tie.Need-belongs-requires
 belongs-requires c κs =
     let read = c .before .before in
-    ((start read .pre, accepted-passed (start read .args .state .now) _ (passed read) .ranges), ap (λ (x : Reached). x .limits) (c .before .of .ensures))
+    ((start read .pre, in-range read), ap (λ (x : Reached). x .limits) (c .before .of .ensures))
 
 -- a refusal's number
 stops : (h : Sheet) (j : Judged) (n : ℕ) → 0 < n → j .number ≡ n → judgedMeaning h j ≡ refused n
@@ -81,7 +89,7 @@ judge-state-spec =
     (tie.spec
     (λ c κs. search needs)
     (λ c. search needs)
-    (λ c κs. search needs)
+    of-requires
     belongs-requires
     (λ c κs. search needs)
     returns

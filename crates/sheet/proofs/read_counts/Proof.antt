@@ -50,11 +50,17 @@ returns-2 c = simp (← within-itself, unsigned-if-out _ _ (compression-read (c 
 
 returns-3 : tie.Need-returns-3
 unfolding countsIn sheetCountsRight
-returns-3 c =
-    let second = c .before .before .before in
+returns-3 c = simp (unsigned-if-out _ _ (sym (c .before .before .read-unsigned3 .ensures) ∙ c .enum-told3 .given .1), and-false)
+
+returns-4 : tie.Need-returns-4
+unfolding countsIn sheetCountsRight
+returns-4 c =
+    let third = c .before .before .before in
+    let second = third .before .before .before .before in
     let tension = unsigned-if-in _ _ (tension-read (first second) ∙ second .before .before .before .tension .given .1) in
-    let compression = unsigned-if-in _ _ (compression-read second ∙ c .before .compression .given .1) in
-    simp (← within-itself, tension .0, compression .0, tension .1, compression .1, law-is (first second))
+    let compression = unsigned-if-in _ _ (compression-read second ∙ third .before .before .compression .given .1) in
+    let points = unsigned-if-in _ _ (sym (third .read-unsigned3 .ensures) ∙ c .before .points .given .1) in
+    simp (← within-itself, tension .0, compression .0, points .0, tension .1, compression .1, points .1, law-is (first second))
 
 pub read-counts-spec : {M : Type 1} → statement M
 read-counts-spec =
@@ -72,4 +78,8 @@ read-counts-spec =
     (λ c. search needs)
     (λ c. search needs)
     returns-2
-    returns-3)
+    (λ c κs. search needs)
+    (λ c. search needs)
+    (λ c. search needs)
+    returns-3
+    returns-4)

@@ -14,9 +14,9 @@ returns c =
     let wrong = told-out header (headerRight _) (headerOf _) (sym (c .before .before .before .read-header .ensures) ∙ c .before .enum-told .given .1) in
     rw (c .refused .ensures) (simp wrong)
 
-read-sides-requires : tie.Need-read-sides-requires
+read-behind-requires : tie.Need-read-behind-requires
 unfolding headerIn
-read-sides-requires c κs = told-in header (headerRight _) (headerOf _) (sym (c .before .before .before .read-header .ensures) ∙ c .before .header .given .1)
+read-behind-requires c κs = told-in header (headerRight _) (headerOf _) (sym (c .before .before .before .read-header .ensures) ∙ c .before .header .given .1)
 
 pub read-fields-spec : {M : Type 1} → statement M
 read-fields-spec =
@@ -27,5 +27,5 @@ read-fields-spec =
     (λ c. search needs)
     (λ c κs. search needs)
     returns
-    read-sides-requires
+    read-behind-requires
     (λ c. search needs))

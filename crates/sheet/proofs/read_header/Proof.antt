@@ -5,7 +5,7 @@ use mathlib.Core.List.{List}
 use borrow.Author.Needs.{needs}
 use Rattle.bits.proofs.RangeLaws.{told-out, told-in}
 use Rattle.sheet.specs.declared.Counts.{Counts}
-use Rattle.sheet.specs.Sheets.{lawIn, sheetCountsRight, constantsRight, yieldsRight, headerRight}
+use Rattle.sheet.specs.Sheets.{lawIn, pointCount, sheetCountsRight, constantsRight, yieldsRight, headerRight}
 use Rattle.sheet.specs.ReaderAnswers.{countsOf, constantsOf, yieldsOf, countsIn, constantsIn, yieldsIn, headerIn}
 use Rattle.sheet.proofs.AnswerCases.{counts, constants, yields}
 use Rattle.sheet.proofs.read_header.Statement.{statement}
@@ -14,10 +14,6 @@ use Rattle.sheet.proofs.read_header.Tie as tie
 returns : tie.Need-returns
 unfolding headerIn headerRight countsIn
 returns c = simp (told-out counts (sheetCountsRight _) (countsOf _) (sym (c .before .before .read-counts .ensures) ∙ c .enum-told .given .1))
-
-returns-2 : tie.Need-returns-2
-unfolding headerIn headerRight constantsIn
-returns-2 c = simp (told-out constants (constantsRight _) (constantsOf _) (sym (c .before .before .read-constants .ensures) ∙ c .enum-told2 .given .1), and-false)
 
 -- The sheet's bytes.
 abbrev bytes : tie.After-known-told → List ℕ
@@ -29,7 +25,16 @@ unfolding countsIn
 counts-are c =
     told-in counts (sheetCountsRight (bytes c)) (countsOf (bytes c)) (sym (c .before .before .before .read-counts .ensures) ∙ c .before .counts .given .1)
 
--- so the yields were read under the sheet's law
+-- so E, expansion and reference temperature were read under the sheet's count of points,
+constants-read : (c : tie.After-read-constants) → let s = bytes (c .before) in constantsIn s (pointCount s) ≡ c .read-constants .result
+constants-read c =
+    ap (constantsIn _) (sym (ap (λ (x : Counts). x .points) (counts-are (c .before) .1))) ∙ sym (c .read-constants .ensures)
+
+returns-2 : tie.Need-returns-2
+unfolding headerIn headerRight constantsIn
+returns-2 c = simp (told-out constants (constantsRight _ (pointCount _)) (constantsOf _) (constants-read (c .before .before) ∙ c .enum-told2 .given .1), and-false)
+
+-- and the yields under its law
 yields-read : (c : tie.After-read-yields) → let s = bytes (c .before .before .before .before .before) in yieldsIn s (lawIn s) ≡ c .read-yields .result
 yields-read c =
     let counted = counts-are (c .before .before .before .before .before) in
@@ -46,7 +51,7 @@ returns-4 c =
     let k = y .before .before .before .before in
     let s = bytes (k .before) in
     let counted = counts-are (k .before) in
-    let constant = told-in constants (constantsRight s) (constantsOf s) (sym (k .read-constants .ensures) ∙ y .before .before .constants .given .1) in
+    let constant = told-in constants (constantsRight s (pointCount s)) (constantsOf s) (constants-read k ∙ y .before .before .constants .given .1) in
     let yield = told-in yields (yieldsRight s (lawIn s)) (yieldsOf s) (yields-read y ∙ c .before .yields .given .1) in
     simp (counted .0, constant .0, yield .0, counted .1, constant .1, yield .1)
 

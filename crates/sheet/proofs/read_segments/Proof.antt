@@ -8,21 +8,22 @@ use lib.ListN.{length}
 use Rattle.ranges.specs.Ranges.{mostLength}
 use Rattle.bits.specs.Field.{within, unsignedIf}
 use Rattle.bits.proofs.RangeLaws.{unsigned-if-out, unsigned-if-in}
-use Rattle.sheet.specs.Sheets.{segmentLengthIn, lengthRight, lengthsRight, allBelow, segmentsIn, allPlaces}
+use Rattle.curve.specs.Sides.{mostSegments, flat}
+use Rattle.sheet.specs.Sheets.{segmentLengthIn, lengthRight, lengthsRight, allBelow, segmentIn, listed, placed}
 use Rattle.sheet.specs.ReaderAnswers.{leastLength, segmentsRead}
-use Rattle.sheet.proofs.SheetLaws.{least-length-small, length-bounds, all-below-more, all-below-stops, places-more}
+use Rattle.sheet.proofs.SheetLaws.{least-length-small, length-bounds, all-below-more, all-below-stops, placed-more}
 use Rattle.sheet.proofs.read_segments.Statement.{statement}
 use Rattle.sheet.proofs.read_segments.Tie as tie
 
 abbrev Inv-loop : tie.InvT-loop
 Inv-loop s first count segments₀ i₀ segments i =
-    (i ≤ count) × (allBelow (lengthRight s first count) i ≡ true) × (segments ≡ allPlaces (segmentsIn s first i))
+    (i ≤ count) × (allBelow (lengthRight s first count) i ≡ true) × (segments ≡ placed mostSegments flat (listed (segmentIn s) first i))
 
 abbrev μ-loop : tie.MeasureT-loop
 μ-loop s first count segments₀ i₀ segments i = count - i
 
 loop-holds : tie.Need-loop-holds Inv-loop μ-loop
-unfolding allBelow segmentsIn
+unfolding allBelow listed
 loop-holds c = (omega arith, refl, c .no-segments .ensures)
 
 mul-most : tie.Need-mul-most Inv-loop μ-loop
@@ -63,7 +64,7 @@ loop-again c =
     let a = at-loop .before .before .before .args in
     let i = at-loop .loop .i in
     let length = unsigned-if-in _ _ (length-read r ∙ told .before .length .given .1) in
-    (omega arith, all-below-more (lengthRight (a .s .now) (a .first) (a .count)) i (at-loop .loop .inv .1) (length .0), rw (at-loop .loop .inv .2, length .1, c .read-tangent .ensures) (places-more (a .s .now) (a .first) i (omega arith)))
+    (omega arith, all-below-more (lengthRight (a .s .now) (a .first) (a .count)) i (at-loop .loop .inv .1) (length .0), rw (at-loop .loop .inv .2, length .1, c .read-tangent .ensures) (placed-more mostSegments flat (segmentIn (a .s .now)) (a .first) i (omega arith)))
 
 returns-2 : tie.Need-returns-2 Inv-loop μ-loop
 unfolding segmentsRead lengthsRight

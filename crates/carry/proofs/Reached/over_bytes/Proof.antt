@@ -1,7 +1,7 @@
 use mathlib.Core.Path.{_≡_, refl, sym, ap, _∙_}
 use Rattle.refusals.specs.Table.{passes, firstOf}
 use Rattle.pair.specs.Pairs.{pairOf, pairRefusals, pairReadMeaning}
-use Rattle.carry.specs.Reaching.{withLimits}
+use Rattle.carry.specs.Reaching.{withReached}
 use Rattle.carry.proofs.PairAnswers.{pair-read, pair-stops, pair-then-step}
 use borrow.Author.Needs.{needs}
 use Rattle.carry.proofs.Reached.over_bytes.Statement.{statement}
@@ -11,7 +11,7 @@ returns : tie.Need-returns
 returns c =
     let read = c .before .before in
     let a = read .before .before .args in
-    ap (withLimits (a .sheet)) (pair-stops (a .sheet) (a .self .rod) (a .bytes .now) (sym (read .read .ensures) ∙ ap pairReadMeaning (c .enum-told .given .1)))
+    ap (withReached (a .sheet)) (pair-stops (a .sheet) (a .self .rod) (a .bytes .now) (sym (read .read .ensures) ∙ ap pairReadMeaning (c .enum-told .given .1)))
 
 -- the bytes pass 8
 passed : (c : tie.After-known-told) → let bytes = c .before .before .before .before .before .args .bytes .now in
@@ -24,7 +24,7 @@ over-requires c κs = let start = c .before .before .before .before .before in (
 returns-2 : tie.Need-returns-2
 returns-2 c =
     let a = c .before .before .before .before .before .before .args in
-    c .over .ensures ∙ ap (withLimits (a .sheet)) (pair-then-step (a .sheet) (a .self .rod) (a .bytes .now) (passed (c .before)) refl)
+    c .over .ensures ∙ ap (withReached (a .sheet)) (pair-then-step (a .sheet) (a .self .rod) (a .bytes .now) (passed (c .before)) refl)
 
 pub over-bytes-spec : {M : Type 1} → statement M
 over-bytes-spec =

@@ -1,6 +1,5 @@
 use Prim.Native.Nat.{_+_, _*_, _≤_}
 use mathlib.Core.Path.{_≡_, ap, ap₂, _∙_}
-use mathlib.Core.Bool.{true}
 use borrow.Author.Needs.{needs}
 use borrow.Author.Tests.{leb-true}
 use native.Mathlib.Nat.{mul-le-mul}
@@ -8,15 +7,16 @@ use native.Mathlib.Omega.{arith}
 use lib.IntN.{pos, natAbs, _-ℤ_, _*ℤ_}
 use lib.Dec.{leb}
 use Rattle.refusals.proofs.FirstLaws.{both-hold}
-use Rattle.ranges.specs.Ranges.{temperatureRight}
 use Rattle.units.specs.Kinds.{grain}
 use Rattle.units.specs.declared.Grain.{Grain}
 use Rattle.units.specs.declared.Nano.{Nano}
 use Rattle.bits.specs.Field.{flag}
 use Rattle.bits.proofs.SignLaws.{flag-below}
 use Rattle.pair.proofs.PairLaws.{pair-facts}
+use Rattle.rod.specs.declared.step.Thermals.{Thermals}
 use Rattle.rod.specs.Steps.{plasticOf, strainAfter}
 use Rattle.rod.proofs.RangeFacts.{ranged}
+use Rattle.rod.proofs.ThermalFacts.{thermals-most}
 use Rattle.rod.proofs.Rod.advance.Statement.{statement}
 use Rattle.rod.proofs.Rod.advance.Tie as tie
 
@@ -28,27 +28,20 @@ abbrev start : tie.After-plus → tie.Start
 start c = branch-of (c .before) .before
 
 abbrev plus-of : tie.After-minus → tie.After-plus
-plus-of c = c .before .before .before
+plus-of c = c .before .before
 
 plus-requires : tie.Need-plus-requires
 plus-requires c κs =
     let s = branch-of c .before in
     omega (arith, ranged (s .args .self) (s .pre .0 .0 .in-range) .strain, pair-facts (s .args .pair) (s .pre .0 .1) .0)
 
-thermal-requires : tie.Need-thermal-requires
-thermal-requires c κs =
-    let s = start (c .before) in
-    let a = s .args in
-    let old-and-new : (temperatureRight (a .self .temperature .0) ≡ true) × (temperatureRight (a .pair .temperature .0) ≡ true) =
-    (ranged (a .self) (s .pre .0 .0 .in-range) .temperature, pair-facts (a .pair) (s .pre .0 .1) .1) in
-    (s .pre .0 .0 .sound, search old-and-new)
-
 -- the strain and the thermal strain
-few-nano : (c : tie.After-thermal) → natAbs (c .before .before .plus .result .0) + natAbs (c .thermal .result .0) ≤ 1000000000
+few-nano : (c : tie.After-temperature) → natAbs (c .before .plus .result .0) + natAbs (start (c .before) .args .thermals .after .0) ≤ 1000000000
 few-nano c =
-    let plus = c .before .before in
+    let plus = c .before in
     let s = start plus in
-    omega (arith, plus .plus .ensures .1, ranged (s .args .self) (s .pre .0 .0 .in-range) .strain, pair-facts (s .args .pair) (s .pre .0 .1) .0, c .thermal .ensures .1)
+    let thermal : natAbs (s .args .thermals .after .0) ≤ 400000000 = rw (s .pre .1 .0) (thermals-most (s .args .sheet) (s .args .self) (s .args .pair) (s .pre .0 .0) (s .pre .0 .1) .1) in
+    omega (arith, plus .plus .ensures .1, ranged (s .args .self) (s .pre .0 .0 .in-range) .strain, pair-facts (s .args .pair) (s .pre .0 .1) .0, thermal)
 
 minus-requires : tie.Need-minus-requires
 minus-requires c κs = omega (arith, few-nano c)
@@ -63,7 +56,10 @@ times-requires : tie.Need-times-requires
 times-requires c κs = (omega (arith, start (plus-of c) .pre .0 .0 .sound .modulus-most), omega (arith, mechanical-stress c))
 
 minus-requires-2 : tie.Need-minus-requires-2
-minus-requires-2 c κs = omega (arith, c .times .ensures .1, mechanical-stress (c .before), start (plus-of (c .before)) .pre .1 .0)
+minus-requires-2 c κs = omega (arith, c .times .ensures .1, mechanical-stress (c .before), start (plus-of (c .before)) .pre .1 .1 .0)
+
+add-pairs : tie.Need-add-pairs
+add-pairs c = record { fits = omega (arith, start (plus-of (c .before .before .before)) .pre .1 .1 .1) }
 
 add-yielded-pairs : tie.Need-add-yielded-pairs
 add-yielded-pairs c =
@@ -72,7 +68,7 @@ add-yielded-pairs c =
     let rod = s .args .self in
     let counts = ranged rod (s .pre .0 .0 .in-range) .counts in
     let fewer = leb-true (rod .«yielded_pairs») (rod .pairs) (both-hold (leb (rod .«yielded_pairs») (rod .pairs)) _ counts .0) in
-    record { fits = omega (arith, fewer, c .before .flag .ensures, flag-below (branch-of (plus .before) .yielded .result), s .pre .1 .1) }
+    record { fits = omega (arith, fewer, c .before .flag .ensures, flag-below (branch-of (plus .before) .yielded .result), s .pre .1 .1 .1) }
 
 -- E times plastic strain, from the new strain and temperature
 plastic-is : (c : tie.After-minus2) → let a = start (plus-of (c .before .before)) .args in
@@ -80,14 +76,13 @@ plastic-is : (c : tie.After-minus2) → let a = start (plus-of (c .before .befor
 plastic-is c =
     let times = c .before in
     let mechanical = times .before in
-    let thermal = mechanical .before in
     let plus = plus-of mechanical in
     let a = start plus .args in
     let e = pos (a .sheet .modulus .0) in
     let s = a .response .stress .0 in
     c .minus2 .ensures .0 ∙ ap (λ (g : Grain). grain (g .0 -ℤ s)) (times .times .ensures .0)
     ∙ ap (λ (n : Nano). grain (e *ℤ n .0 -ℤ s)) (mechanical .minus .ensures .0)
-    ∙ ap₂ (λ (m n : Nano). grain (e *ℤ (m .0 -ℤ n .0) -ℤ s)) (plus .plus .ensures .0) (thermal .thermal .ensures .0)
+    ∙ ap₂ (λ (m : Nano) (w : Thermals). grain (e *ℤ (m .0 -ℤ w .after .0) -ℤ s)) (plus .plus .ensures .0) (start plus .pre .1 .0)
 
 returns : tie.Need-returns
 returns c =
@@ -122,11 +117,10 @@ advance-spec =
     (tie.spec
     (λ c κs. search needs)
     plus-requires
-    thermal-requires
     minus-requires
     times-requires
     minus-requires-2
-    (λ c. search needs)
+    add-pairs
     (λ c κs. search needs)
     add-yielded-pairs
     returns)

@@ -76,7 +76,7 @@ respond-requires c κs =
       variables = variables-right (sheet .law) (rod .first .0) (rod .second .0) (ap (λ (l : Law). firstRight l (rod .first .0)) (sym law) ∙ facts .first) (ap (λ (l : Law). secondRight l (rod .second .0)) (sym law) ∙ facts .second);
       trial-most = trial .trial .ensures .1;
     } in
-    (answerable, (s .pre .1, c .negative .ensures))
+    (answerable, (s .pre .1 .0, c .negative .ensures))
 
 -- the law's answer is the outcome
 outcome-is : (c : tie.After-respond) → let a = start (strain-test (both-test c)) .args in
@@ -117,7 +117,7 @@ advance-requires c κs =
     let s = start (strain-test (both-test respond)) in
     let o = respond .respond .result in
     let kept = stays (s .args .self) (o .stress .0) (o .first .0) (o .second .0) (sym (c .before .leaves-range .ensures) ∙ c .if3 .left) in
-    (s .pre .0, (kept .stress, kept .pairs))
+    (s .pre .0, (s .pre .1 .1, (kept .stress, kept .pairs)))
 
 returns-4 : tie.Need-returns-4
 unfolding firstOf stepRefusals advanceOf

@@ -1,6 +1,5 @@
 use Prim.Native.Nat.{_+_, _*_, _≤_}
-use mathlib.Core.Path.{ap, ap₂, _∙_}
-use borrow.Author.Needs.{needs}
+use mathlib.Core.Path.{ap, _∙_}
 use native.Mathlib.Nat.{mul-le-mul}
 use native.Mathlib.Omega.{arith}
 use lib.IntN.{pos, natAbs, _+ℤ_, _-ℤ_, _*ℤ_}
@@ -8,8 +7,10 @@ use Rattle.units.specs.Kinds.{grain}
 use Rattle.units.specs.declared.Grain.{Grain}
 use Rattle.units.specs.declared.Nano.{Nano}
 use Rattle.pair.proofs.PairLaws.{pair-facts}
+use Rattle.rod.specs.declared.step.Thermals.{Thermals}
 use Rattle.rod.specs.Steps.{trialOf}
 use Rattle.rod.proofs.RangeFacts.{ranged}
+use Rattle.rod.proofs.ThermalFacts.{thermals-most}
 use Rattle.rod.proofs.Rod.trial.Statement.{statement}
 use Rattle.rod.proofs.Rod.trial.Tie as tie
 
@@ -17,24 +18,18 @@ use Rattle.rod.proofs.Rod.trial.Tie as tie
 abbrev start : tie.After-minus → tie.Start
 start c = c .before .before .before .before .before .before
 
-thermal-requires : tie.Need-thermal-requires
-thermal-requires c κs =
-    let s = c .before .before in
-    (s .pre .0 .sound, ranged (s .args .self) (s .pre .0 .in-range) .temperature)
+-- the thermal strains, and the change of mechanical strain
+thermals-few : (c : tie.Start) → (natAbs (c .args .thermals .before .0) ≤ 400000000) × (natAbs (c .args .thermals .after .0) ≤ 400000000)
+thermals-few c = rw (c .pre .1) (thermals-most (c .args .sheet) (c .args .self) (c .args .pair) (c .pre .0 .0) (c .pre .0 .1))
 
-thermal-requires-2 : tie.Need-thermal-requires-2
-thermal-requires-2 c κs =
-    let s = c .before .before .before in
-    (s .pre .0 .sound, pair-facts (s .args .pair) (s .pre .1) .1)
+minus-requires : tie.Need-minus-requires
+minus-requires c κs = omega (arith, thermals-few (c .before .before .before .before .before))
 
--- the change of mechanical strain
 few-nano : (c : tie.After-minus) → let a = start c .args in
     natAbs (a .pair .change .0) + natAbs (c .minus .result .0) ≤ 1000000000
 few-nano c =
-    let second = c .before .before in
-    let first = second .before in
     let s = start c in
-    omega (arith, pair-facts (s .args .pair) (s .pre .1) .0, c .minus .ensures .1, second .thermal2 .ensures .1, first .thermal .ensures .1)
+    omega (arith, pair-facts (s .args .pair) (s .pre .0 .1) .0, c .minus .ensures .1, thermals-few s)
 
 minus-requires-2 : tie.Need-minus-requires-2
 minus-requires-2 c κs = omega (arith, few-nano c)
@@ -45,18 +40,18 @@ elastic-stress : (c : tie.After-minus2) → let a = start (c .before) .args in
 elastic-stress c =
     let s = start (c .before) in
     let few : natAbs (c .minus2 .result .0) ≤ 1000000000 = omega (arith, c .minus2 .ensures .1, few-nano (c .before)) in
-    mul-le-mul {n₁ = s .args .sheet .modulus .0} {m₁ = natAbs (c .minus2 .result .0)} {n₂ = 400000} {m₂ = 1000000000} (s .pre .0 .sound .modulus-most) few
+    mul-le-mul {n₁ = s .args .sheet .modulus .0} {m₁ = natAbs (c .minus2 .result .0)} {n₂ = 400000} {m₂ = 1000000000} (s .pre .0 .0 .sound .modulus-most) few
 
 times-requires : tie.Need-times-requires
 times-requires c κs =
     let s = start (c .before) in
-    (omega (arith, s .pre .0 .sound .modulus-most), omega (arith, elastic-stress c))
+    (omega (arith, s .pre .0 .0 .sound .modulus-most), omega (arith, elastic-stress c))
 
 stresses : (c : tie.After-times) → let a = start (c .before .before) .args in
     natAbs (a .self .stress .0) + natAbs (c .times .result .0) ≤ 500000000000000
 stresses c =
     let s = start (c .before .before) in
-    omega (arith, ranged (s .args .self) (s .pre .0 .in-range) .stress, c .times .ensures .1, elastic-stress (c .before))
+    omega (arith, ranged (s .args .self) (s .pre .0 .0 .in-range) .stress, c .times .ensures .1, elastic-stress (c .before))
 
 plus-requires : tie.Need-plus-requires
 plus-requires c κs = omega (arith, stresses c)
@@ -67,15 +62,13 @@ returns c =
     let times = c .before in
     let mechanical = times .before in
     let thermal = mechanical .before in
-    let second = thermal .before .before in
-    let first = second .before in
     let a = start thermal .args in
     let e = pos (a .sheet .modulus .0) in
     let s = a .self .stress .0 in (
       c .plus .ensures .0 ∙ ap (λ (g : Grain). grain (s +ℤ g .0)) (times .times .ensures .0)
           ∙ ap (λ (n : Nano). grain (s +ℤ e *ℤ n .0)) (mechanical .minus2 .ensures .0)
           ∙ ap (λ (n : Nano). grain (s +ℤ e *ℤ (a .pair .change .0 -ℤ n .0))) (thermal .minus .ensures .0)
-          ∙ ap₂ (λ (m n : Nano). grain (s +ℤ e *ℤ (a .pair .change .0 -ℤ (m .0 -ℤ n .0)))) (second .thermal2 .ensures .0) (first .thermal .ensures .0),
+          ∙ ap (λ (w : Thermals). grain (s +ℤ e *ℤ (a .pair .change .0 -ℤ (w .after .0 -ℤ w .before .0)))) (start thermal .pre .1),
       omega (arith, c .plus .ensures .1, stresses times),
     )
 
@@ -83,9 +76,7 @@ pub trial-spec : {M : Type 1} → statement M
 trial-spec =
     tie.close
     (tie.spec
-    thermal-requires
-    thermal-requires-2
-    (λ c κs. search needs)
+    minus-requires
     minus-requires-2
     times-requires
     plus-requires
