@@ -81,7 +81,8 @@ static void put(uint8_t *bytes, size_t *at, unsigned width, int64_t value)
     }
 }
 
-static void write_sheet(int law)
+/* With or without points, whose temperatures the pairs cross. */
+static void write_sheet(int law, int points)
 {
     size_t at = 0;
     int tensions = law == 1 ? 7 : 1;
@@ -90,11 +91,12 @@ static void write_sheet(int law)
     put(sheet, &at, 3, tensions);
     put(sheet, &at, 3, law == 3);
     put(sheet, &at, 20, 200000);
-    put(sheet, &at, 14, 1200);
+    put(sheet, &at, 14, points ? 0 : 1200);
     put(sheet, &at, 16, 200);
     put(sheet, &at, 24, 200000);
     put(sheet, &at, 24, law == 3 ? 250000 : 0);
-    put(sheet, &at, 6, 0);
+    put(sheet, &at, 2, 0);
+    put(sheet, &at, 4, points);
     for (int i = 0; i < tensions; i++) {
         put(sheet, &at, 28, i + 1 < tensions ? 100000000 : 0);
         put(sheet, &at, 20, 14000 - 2000 * i);
@@ -102,6 +104,11 @@ static void write_sheet(int law)
     if (law == 3) {
         put(sheet, &at, 28, 0);
         put(sheet, &at, 20, 2000);
+    }
+    for (int i = 0; i < points; i++) {
+        put(sheet, &at, 16, 210 + 37 * i);
+        put(sheet, &at, 2, 0);
+        put(sheet, &at, 14, 1200 + (i % 2 ? -10 : 10) * i);
     }
     sheet_len = at / 8;
 }
@@ -126,8 +133,9 @@ int main(void)
     } calls[] = {{"unused rod", unused}, {"forecast", forecast}, {"single pair", pair}, {"run of 4,096 pairs", run}};
     size_t most = 0, run_most = 0;
     write_pairs();
-    for (int law = 0; law < 4; law++) {
-        write_sheet(law);
+    for (int sheets = 0; sheets < 8; sheets++) {
+        int law = sheets / 2;
+        write_sheet(law, sheets % 2 ? TIE_ROD_POINTS_MAX : 0);
         for (size_t i = 0; i < sizeof calls / sizeof calls[0]; i++) {
             /* Once beforehand, so that the dynamic linker's own frames aren't counted. */
             calls[i].call();

@@ -1,7 +1,8 @@
 /*
- * A logger's firmware in small: carries a rod over two heats through the C
- * interface (SPEC 9.10) and prints what its card and its readers get. After a
- * refusal the card still has a good state.
+ * A logger's firmware in small: carries a rod over two heats, and one of a
+ * dryer's hot end over a third, through the C interface (SPEC 9.10), and prints
+ * what its card and its readers get. After a refusal the card still has a good
+ * state.
  */
 #include "tie_rod.h"
 
@@ -10,6 +11,7 @@
 #include <string.h>
 
 #define PAIRS_OF_A_HEAT 6
+#define POINTS_OF_A_SHEET 5
 
 /* ---- fields of bits, most significant first (SPEC 3.1 to 3.3) ---- */
 
@@ -37,22 +39,31 @@ static int64_t take(const uint8_t *bytes, size_t *at, unsigned width, int is_sig
 
 /* ---- what goes in ---- */
 
-/* Law 0 or 2: E 200,000 MPa, 12e-6 per kelvin, yield 200 MPa, tangent 2,000 MPa, reference 20.0 degrees. */
-static size_t write_sheet(uint8_t *sheet, int law)
+/*
+ * Law 0 or 2: E 200,000 MPa, yield 200 MPa, tangent 2,000 MPa, reference 20.0 degrees. The expansion is 12e-6 per
+ * kelvin, or given by points: temperature and coefficient, the coldest first.
+ */
+static size_t write_sheet(uint8_t *sheet, int law, const int32_t (*points)[2], size_t count)
 {
     size_t at = 0;
-    memset(sheet, 0, 20);
-    put(sheet, &at, 2, law);     /* law */
-    put(sheet, &at, 3, 1);       /* tension segments */
-    put(sheet, &at, 3, 0);       /* compression segments */
-    put(sheet, &at, 20, 200000); /* E */
-    put(sheet, &at, 14, 1200);   /* expansion */
-    put(sheet, &at, 16, 200);    /* reference temperature */
-    put(sheet, &at, 24, 200000); /* tension yield */
-    put(sheet, &at, 24, 0);      /* compression yield */
-    put(sheet, &at, 6, 0);       /* zero */
-    put(sheet, &at, 28, 0);      /* the one segment's length: it has no end */
-    put(sheet, &at, 20, 2000);   /* its tangent */
+    memset(sheet, 0, TIE_ROD_SHEET_BYTES_MAX);
+    put(sheet, &at, 2, law);                    /* law */
+    put(sheet, &at, 3, 1);                      /* tension segments */
+    put(sheet, &at, 3, 0);                      /* compression segments */
+    put(sheet, &at, 20, 200000);                /* E */
+    put(sheet, &at, 14, count == 0 ? 1200 : 0); /* expansion: 0 beside points */
+    put(sheet, &at, 16, 200);                   /* reference temperature */
+    put(sheet, &at, 24, 200000);                /* tension yield */
+    put(sheet, &at, 24, 0);                     /* compression yield */
+    put(sheet, &at, 2, 0);                      /* zero */
+    put(sheet, &at, 4, (int64_t)count);         /* points */
+    put(sheet, &at, 28, 0);                     /* the one segment's length: it has no end */
+    put(sheet, &at, 20, 2000);                  /* its tangent */
+    for (size_t i = 0; i < count; i++) {
+        put(sheet, &at, 16, points[i][0]);      /* a point's temperature */
+        put(sheet, &at, 2, 0);                  /* zero */
+        put(sheet, &at, 14, points[i][1]);      /* its coefficient */
+    }
     return at / 8;
 }
 
@@ -108,7 +119,7 @@ static void print_card(const uint8_t *state)
 
 static const char *who(unsigned number)
 {
-    if (number <= 3)
+    if (number <= 3 || number == TIE_ROD_SHEET_POINTS)
         return "the sheet";
     if (number <= 6)
         return "the state";
@@ -132,9 +143,9 @@ static void print_refusal(uint64_t answer)
 
 /*
  * What a call leaves on the card (SPEC 9.3). On 0 and 8 to 11 the rod has moved
- * as far as its pairs were accepted, and that state is stored. On 1 to 6 `next`
- * is zero bytes, which are no state, and on 7 and 12 the old state holds: the
- * card is left alone, and the refusal has been reported.
+ * as far as its pairs were accepted, and that state is stored. On 1 to 6 and 13
+ * `next` is zero bytes, which are no state, and on 7 and 12 the old state holds:
+ * the card is left alone, and the refusal has been reported.
  */
 static void store(uint8_t *card, const uint8_t *next, uint64_t answer)
 {
@@ -162,6 +173,16 @@ static void heat(const char *name, const uint8_t *sheet, size_t sheet_len, uint8
     store(card, next, answer);
 }
 
+/* What a refused sheet leaves: zeros where a state was asked for, and no row. */
+static void print_left(uint64_t answer, const uint8_t *next)
+{
+    size_t zeros = 0;
+    while (zeros < TIE_ROD_STATE_BYTES && next[zeros] == 0)
+        zeros++;
+    printf("  left: %zu zero bytes, %zu rows, place %zu\n", zeros, tie_rod_rows(answer, TIE_ROD_PAIR_BYTES),
+           tie_rod_place(answer));
+}
+
 int main(void)
 {
     /* Strain change in nano, new temperature in tenths of a degree. */
@@ -171,11 +192,21 @@ int main(void)
     static const int32_t second_heat[][2] = {
         {900000, 200}, {600000, 200}, {150000000, 200}, {0, 200},
     };
+    static const int32_t dryer_heat[][2] = {
+        {2150000, 2000}, {1250000, 3001}, {4470000, 5999}, {1800000, 8000}, {400000, 8000}, {-9900000, 200},
+    };
+    /* Temperature in tenths of a degree, from 20 to 800 degrees, and coefficient in 10^-8 per kelvin. */
+    static const int32_t hot_end[POINTS_OF_A_SHEET][2] = {
+        {200, 1150}, {2000, 1220}, {4000, 1310}, {6000, 1400}, {8000, 1480},
+    };
+    static const int32_t exchanged[POINTS_OF_A_SHEET][2] = {
+        {200, 1150}, {2000, 1220}, {6000, 1400}, {4000, 1310}, {8000, 1480},
+    };
     uint8_t sheet[TIE_ROD_SHEET_BYTES_MAX];
     uint8_t other[TIE_ROD_SHEET_BYTES_MAX];
     uint8_t card[TIE_ROD_STATE_BYTES];
-    size_t sheet_len = write_sheet(sheet, 0);
-    size_t other_len = write_sheet(other, 2);
+    size_t sheet_len = write_sheet(sheet, 0, NULL, 0);
+    size_t other_len = write_sheet(other, 2, NULL, 0);
 
     uint64_t answer = tie_rod_unused(sheet, sheet_len, card);
     printf("an unused rod\n");
@@ -204,5 +235,28 @@ int main(void)
     printf("a forecast\n");
     print_refusal(answer);
     printf("  tangent %" PRIu32 " MPa\n", tie_rod_tangent(answer));
+
+    sheet_len = write_sheet(sheet, 0, hot_end, POINTS_OF_A_SHEET);
+    other_len = write_sheet(other, 0, exchanged, POINTS_OF_A_SHEET);
+    answer = tie_rod_unused(sheet, sheet_len, card);
+    printf("an unused rod for a dryer's hot end, its expansion given by points\n");
+    print_refusal(answer);
+    if (tie_rod_number(answer) != TIE_ROD_ACCEPTED)
+        return 1;
+    print_card(card);
+    heat("a heat from 20 to 800 degrees and back", sheet, sheet_len, card, dryer_heat,
+         sizeof dryer_heat / sizeof dryer_heat[0]);
+
+    answer = tie_rod_unused(other, other_len, next);
+    printf("another rod, with a sheet whose points don't rise\n");
+    print_refusal(answer);
+    print_left(answer, next);
+    write_pair(pair, 0, 200);
+    memset(next, 0xee, sizeof next);
+    answer = tie_rod_pair(other, other_len, card, sizeof card, pair, sizeof pair, row, sizeof row, next, sizeof next);
+    printf("a single pair with that sheet\n");
+    print_refusal(answer);
+    print_left(answer, next);
+    store(card, next, answer);
     return 0;
 }

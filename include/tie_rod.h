@@ -23,20 +23,33 @@
  *   moduli      MPa
  *   temperature tenths of a degree Celsius
  *
- * Sheet (SPEC 3.7, 3.8): 14 bytes, then 6 bytes a segment, tension first.
+ * Sheet (SPEC 3.7, 3.8): 14 bytes, then 6 bytes a segment, tension first, then
+ * 4 bytes a point of the expansion.
  *   law            2   0 isotropic line, 1 isotropic traction curve,
  *                      2 kinematic line, 3 asymmetric line
  *   segments, T    3   1; law 1: 1 to 7
  *   segments, C    3   law 3: 1; else 0
  *   E             20   1 to 400,000
- *   expansion     14   0 to 10,000, in 10^-8 per kelvin
+ *   expansion     14   0 to 10,000, in 10^-8 per kelvin; 0 where there are points
  *   reference     16 s -2,000 to 20,000, a temperature
  *   yield, T      24   1 to 10,000,000, in 10^-3 MPa
  *   yield, C      24   law 3: 1 to 10,000,000; else 0
- *   zero           6   0
+ *   zero           2   0
+ *   points c       4   0 to 8
  *   then each segment:
  *   length        28   1 to 100,000,000 nano; 0 for the last of its side
  *   tangent       20   below E; along a side it never rises
+ *   then each point:
+ *   temperature   16 s -2,000 to 20,000; each above that of the point before
+ *   zero           2   0
+ *   coefficient   14   0 to 10,000, in 10^-8 per kelvin
+ *
+ * Thermal strain (SPEC 5.1) is the coefficient at the temperature times
+ * (temperature - reference): a secant coefficient, counted from the reference.
+ *   No points: the coefficient is the expansion field, at every temperature.
+ *   Else it is that of the first point up to it, that of the last one from it on,
+ *   and in between what the straight line through the two neighbours has there,
+ *   rounded down, whether the line rises or falls.
  *
  * State (SPEC 3.11): 37 bytes.
  *   law            2   the sheet's
@@ -77,22 +90,27 @@ extern "C" {
 #define TIE_ROD_STATE_BYTES 37
 #define TIE_ROD_ROW_BYTES 16
 #define TIE_ROD_PAIR_BYTES 6
-/* The most that a sheet's own counts can ask for. One that passes has at most 56. */
-#define TIE_ROD_SHEET_BYTES_MAX 98
+/* The most that a sheet's own counts can ask for. One that passes has at most 88. */
+#define TIE_ROD_SHEET_BYTES_MAX 158
+/* The most points that a sheet has. */
+#define TIE_ROD_POINTS_MAX 8
 /* The most pairs that one run takes. */
 #define TIE_ROD_PAIRS_MAX 4096
 
 /*
  * The numbers (SPEC 8.2). A call answers the first of them that applies, in this
- * order: 1 to 7, then 12, then pair by pair 8, 9, 11 and 10.
+ * order: 1, 2, 3, 13, 4, 5, 6, then 7 and 12, then pair by pair 8, 9, 11 and 10.
  */
 enum tie_rod_numbers {
     TIE_ROD_ACCEPTED = 0,
 
     /* For whoever wrote the sheet. */
-    TIE_ROD_SHEET_LENGTH = 1,  /* below 14 bytes, or not 14 + 6 for each segment */
-    TIE_ROD_SHEET_FIELD = 2,   /* a field isn't in its range, or a zero field isn't 0 */
+    TIE_ROD_SHEET_LENGTH = 1,  /* below 14 bytes, or not 14 + 6 for each segment + 4 for
+                                  each point, the counts as they stand there */
+    TIE_ROD_SHEET_FIELD = 2,   /* a field isn't in its range, a zero field isn't 0, or
+                                  expansion isn't 0 though there are points */
     TIE_ROD_SHEET_TANGENT = 3, /* a tangent not below E, or above the one before it on its side */
+    TIE_ROD_SHEET_POINTS = 13, /* a point isn't warmer than the one before it */
 
     /* For whoever keeps the state. */
     TIE_ROD_STATE_LENGTH = 4, /* not 37 bytes */
@@ -133,7 +151,7 @@ enum tie_rod_numbers {
  *   8 to 11       a row for each pair before   the state after the last
  *                 the place                    accepted pair
  *   7, 12         unchanged                    the bytes of `state`
- *   1 to 6        unchanged                    37 zero bytes
+ *   1 to 6, 13    unchanged                    37 zero bytes
  *
  * That is all that changes (SPEC 9.3 to 9.5): rows behind the last accepted
  * pair keep what they held. A `next` of another length than 37 stays untouched
@@ -141,9 +159,9 @@ enum tie_rod_numbers {
  * with no row, and `next` then holds the bytes of `state`.
  *
  * Whoever keeps the state on a card stores `next` on 0 and on 8 to 11 only, as
- * tie_rod_has_next says. On 1 to 6 its zeros would take the state off the card:
- * leave the card alone and report the number. On 7 and 12 the old state holds, and a `next` of
- * another length holds whatever it held before the call.
+ * tie_rod_has_next says. On 1 to 6 and 13 its zeros would take the state off the
+ * card: leave the card alone and report the number. On 7 and 12 the old state
+ * holds, and a `next` of another length holds whatever it held before the call.
  */
 uint64_t tie_rod_run(const uint8_t *sheet, size_t sheet_len,
                      const uint8_t *state, size_t state_len,
@@ -160,15 +178,17 @@ uint64_t tie_rod_pair(const uint8_t *sheet, size_t sheet_len,
 
 /*
  * The tangent modulus that a state lets one expect (SPEC 7.13, 9.8). The answer
- * is number + 256 * tangent; the number is 0 to 6, the tangent 0 unless it is 0.
+ * is number + 256 * tangent; the number is 0 to 6 or 13, the tangent 0 unless it
+ * is 0.
  */
 uint64_t tie_rod_forecast(const uint8_t *sheet, size_t sheet_len,
                           const uint8_t *state, size_t state_len);
 
 /*
  * Makes an unused rod of a sheet (SPEC 3.15, 9.9). The answer is the number, 0
- * to 3. All 37 bytes of `state` are written: the rod, or zeros where the sheet is
- * refused, so never lend it a card that holds a state. `state` is never NULL.
+ * to 3 or 13. All 37 bytes of `state` are written: the rod, or zeros where the
+ * sheet is refused, so never lend it a card that holds a state. `state` is never
+ * NULL.
  */
 uint64_t tie_rod_unused(const uint8_t *sheet, size_t sheet_len,
                         uint8_t state[TIE_ROD_STATE_BYTES]);
@@ -188,7 +208,7 @@ static inline size_t tie_rod_place(uint64_t answer)
 /*
  * Whether `next` after tie_rod_run or tie_rod_pair is to be stored: all pairs were
  * accepted, or one of them was refused and so has a place (8 to 11). On any other
- * answer the card stays as it is.
+ * answer, 13 among them, the card stays as it is.
  */
 static inline int tie_rod_has_next(uint64_t answer)
 {

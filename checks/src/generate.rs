@@ -2,11 +2,12 @@
 //! damaged fields, random bytes, and buffers of wrong lengths.
 //!
 //! The quick version steers: from the state reached so far a pair is chosen
-//! that stays elastic, flows, or meets a limit, a segment's start or the end
-//! of a range exactly. Nothing here says what a call has to answer.
+//! that stays elastic, flows, or meets a limit, a segment's start, a point of
+//! the expansion or the end of a range exactly. Nothing here says what a call
+//! has to answer.
 
 use crate::call::{Call, Entry};
-use crate::layout::{self, Field, PAIR_BYTES, ROW_BYTES, SEGMENT_BYTES, SHEET_BYTES, STATE_BYTES};
+use crate::layout::{self, Field, PAIR_BYTES, POINT_BYTES, ROW_BYTES, SEGMENT_BYTES, SHEET_BYTES, STATE_BYTES};
 use crate::plain;
 use crate::random::Random;
 use crate::rules;
@@ -15,6 +16,8 @@ use crate::steer::{Piece, Rod, Steel};
 const STRAIN: i64 = 100_000_000;
 const STRESS: i64 = 100_000_000_000_000;
 const ABSCISSA: i64 = 100_000_000_000_000_000;
+const COLDEST: i64 = -2_000;
+const WARMEST: i64 = 20_000;
 
 // ---- sheets ----
 
@@ -64,11 +67,60 @@ fn segments(random: &mut Random, modulus: i64, count: usize) -> Vec<[i64; 2]> {
     segments
 }
 
+/// Temperatures that rise, for this many points: one tenth apart, near the reference, up to both ends of the range,
+/// or any.
+fn rising_temperatures(random: &mut Random, reference: i64, count: i64) -> Vec<i64> {
+    let mut all: Vec<i64> = match random.below(5) {
+        0 => {
+            let near = (reference + random.range(-count, 1)).clamp(COLDEST, WARMEST + 1 - count);
+            let first = random.pick(&[near, near, near, COLDEST, WARMEST + 1 - count]);
+            (first..first + count).collect()
+        }
+        1 => (0..count).map(|i| COLDEST + (WARMEST - COLDEST) * i / (count - 1).max(1)).collect(),
+        2 | 3 => {
+            let first = (reference + random.range(-60, 20)).clamp(COLDEST, WARMEST - 200);
+            (0..count).map(|i| first + 25 * i + random.range(0, 24)).collect()
+        }
+        _ => (0..count).map(|_| random.range(COLDEST, WARMEST)).collect(),
+    };
+    if random.chance(10) {
+        all[0] = COLDEST;
+    }
+    if random.chance(10) {
+        *all.last_mut().unwrap() = WARMEST;
+    }
+    all.sort();
+    all.dedup();
+    all
+}
+
+/// Points that pass, from one to eight: coefficients that rise, fall, stay, go up and down, or leap from end to end.
+fn points(random: &mut Random, reference: i64) -> Vec<[i64; 3]> {
+    let count = random.range(1, 8);
+    let temperatures = rising_temperatures(random, reference, count);
+    let (shape, high, odd) = (random.below(6), random.pick(&[10_000, 10_000, 2_000, 30]), random.range(0, 1));
+    let mut coefficients: Vec<i64> = temperatures.iter().map(|_| random.range(0, high)).collect();
+    match shape {
+        0 => coefficients.sort(),
+        1 | 2 => {
+            coefficients.sort();
+            coefficients.reverse();
+        }
+        3 => coefficients.fill(high),
+        4 => coefficients = (odd..odd + temperatures.len() as i64).map(|i| 10_000 * (i % 2)).collect(),
+        _ => {}
+    }
+    temperatures.into_iter().zip(coefficients).map(|(temperature, coefficient)| [temperature, 0, coefficient]).collect()
+}
+
 /// The bytes of a sheet from its fields, whatever they are.
-pub fn sheet_bytes(head: [i64; 9], segments: &[[i64; 2]]) -> Vec<u8> {
+pub fn sheet_bytes(head: [i64; 10], segments: &[[i64; 2]], points: &[[i64; 3]]) -> Vec<u8> {
     let mut bytes = layout::write(&layout::SHEET, head);
     for &segment in segments {
         bytes.extend(layout::write(&layout::SEGMENT, segment));
+    }
+    for &point in points {
+        bytes.extend(layout::write(&layout::POINT, point));
     }
     bytes
 }
@@ -92,7 +144,17 @@ pub fn small_sheet(random: &mut Random, law: i64) -> Vec<u8> {
     sheet_with(random, law, e, tension_yield, compression_yield)
 }
 
-/// A sheet that passes, with this modulus and these yields; the other fields are random.
+/// A sheet that passes and has this many points or more.
+pub fn sheet_with_points(random: &mut Random, least: i64) -> Vec<u8> {
+    loop {
+        let sheet = sheet(random);
+        if layout::read(&layout::SHEET, &sheet)[9] >= least {
+            return sheet;
+        }
+    }
+}
+
+/// A sheet that passes, with this modulus and these yields; the other fields are random. Half have points.
 fn sheet_with(random: &mut Random, law: i64, e: i64, tension_yield: i64, compression_yield: i64) -> Vec<u8> {
     let tensions = if law == 1 { random.range(1, 7) } else { 1 };
     let compressions = (law == 3) as i64;
@@ -110,7 +172,11 @@ fn sheet_with(random: &mut Random, law: i64, e: i64, tension_yield: i64, compres
     let compression_yield = if law == 3 { compression_yield } else { 0 };
     let mut all = segments(random, e, tensions as usize);
     all.extend(segments(random, e, compressions as usize));
-    sheet_bytes([law, tensions, compressions, e, expansion, reference, tension_yield, compression_yield, 0], &all)
+    let points = if random.chance(50) { points(random, reference) } else { Vec::new() };
+    let expansion = if points.is_empty() { expansion } else { 0 };
+    let count = points.len() as i64;
+    let head = [law, tensions, compressions, e, expansion, reference, tension_yield, compression_yield, 0, count];
+    sheet_bytes(head, &all, &points)
 }
 
 // ---- states ----
@@ -174,7 +240,7 @@ pub fn any_state(random: &mut Random, steel: &Steel) -> Vec<u8> {
     let some = random.range(0, n);
     let k = random.pick(&[0, n, some, 1]).min(n);
     let yielded = (k >= 1 && random.chance(60)) as i64;
-    let temperature = temperature(random, steel.reference);
+    let temperature = temperature(random, steel, steel.reference);
     layout::write(&layout::STATE, [steel.law, yielded, 0, strain, temperature, stress, first, second, n, k])
 }
 
@@ -186,19 +252,27 @@ pub fn unused_state(sheet: &[u8]) -> Vec<u8> {
 
 // ---- pairs ----
 
-fn temperature(random: &mut Random, now: i64) -> i64 {
-    match random.below(12) {
-        0 => random.range(-2_000, 20_000),
-        1 => random.pick(&[-2_000, 20_000]),
-        2..=4 => (now + random.range(-30, 30)).clamp(-2_000, 20_000),
+/// A temperature; where the sheet has points, often one of theirs, one beside it, between two, or beyond an end.
+fn temperature(random: &mut Random, steel: &Steel, now: i64) -> i64 {
+    let wanted = match (random.below(12), &steel.points[..]) {
+        (0, _) => random.range(COLDEST, WARMEST),
+        (1, _) => random.pick(&[COLDEST, WARMEST]),
+        (2 | 3, points @ [first, .., last]) => {
+            let between = random.range(first.0, last.0);
+            let point = random.pick(points).0;
+            random.pick(&[point, point, point - 1, point + 1, between, between, first.0 - 20, last.0 + 20])
+        }
+        (2, [only]) => only.0 + random.range(-1, 1),
+        (2..=4, _) => now + random.range(-30, 30),
         _ => now,
-    }
+    };
+    wanted.clamp(COLDEST, WARMEST)
 }
 
 /// A pair that is to be accepted, from this state.
 pub fn pair(random: &mut Random, steel: &Steel, rod: &Rod) -> [i64; 3] {
     let (lower, upper) = steel.limits(rod.first, rod.second);
-    let temperature = temperature(random, rod.temperature);
+    let temperature = temperature(random, steel, rod.temperature);
     let e = steel.e;
     // how far past the limit: from a grain to what half the strain range gives
     let past = random.spread(0, e * STRAIN / 2);
@@ -214,7 +288,7 @@ pub fn pair(random: &mut Random, steel: &Steel, rod: &Rod) -> [i64; 3] {
         (14, _) => lower,
         _ => rod.stress,
     };
-    let thermal = steel.a * (temperature - rod.temperature);
+    let thermal = steel.thermal(temperature) - steel.thermal(rod.temperature);
     let nudge = random.pick(&[0, 0, 0, 0, 1, -1]);
     let change = (wanted.saturating_sub(rod.stress)).div_euclid(e).saturating_add(thermal + nudge);
     let mut change = change.clamp(-STRAIN - rod.strain, STRAIN - rod.strain);
@@ -224,19 +298,26 @@ pub fn pair(random: &mut Random, steel: &Steel, rod: &Rod) -> [i64; 3] {
     [0, change, temperature]
 }
 
-/// A pair that flows, on either side, by little or much.
+/// A pair that flows, on either side, by little or much; one in ten at another temperature.
 pub fn flowing_pair(random: &mut Random, steel: &Steel, rod: &Rod) -> [i64; 3] {
     let (lower, upper) = steel.limits(rod.first, rod.second);
     let e = steel.e;
+    let near = random.range(-40, 40);
+    let warmer = temperature(random, steel, (rod.temperature + near).clamp(COLDEST, WARMEST));
+    let thermal = steel.thermal(warmer) - steel.thermal(rod.temperature);
+    // only where the strain can make up for the heat
+    let heats = random.chance(10) && (rod.strain + thermal).abs() < STRAIN / 2;
+    let (temperature, thermal) = if heats { (warmer, thermal) } else { (rod.temperature, 0) };
     // as far as the strain allows, either way
-    let (highest, lowest) = ((STRAIN - rod.strain) * e + rod.stress, (-STRAIN - rod.strain) * e + rod.stress);
+    let strain = rod.strain + thermal;
+    let (highest, lowest) = ((STRAIN - strain) * e + rod.stress, (-STRAIN - strain) * e + rod.stress);
     // mostly by little, so that the limits stay within reach of the strain
     let way = if random.chance(2) { STRAIN / 4 } else { random.pick(&[1, 2, 100, 10_000]) };
     let past = random.range(1, e * way);
     let up = if random.chance(90) { rod.stress <= 0 } else { random.chance(50) };
     let wanted = if up && highest > upper || lowest >= lower { upper + past } else { lower - past };
-    let change = (wanted.clamp(lowest, highest) - rod.stress).div_euclid(e) + up as i64;
-    [0, change.clamp(-STRAIN - rod.strain, STRAIN - rod.strain), rod.temperature]
+    let change = (wanted.clamp(lowest, highest) - rod.stress).div_euclid(e) + thermal + up as i64;
+    [0, change.clamp(-STRAIN - rod.strain, STRAIN - rod.strain), temperature]
 }
 
 /// A pair that is to be refused with 8 or 9, from this state.
@@ -354,10 +435,24 @@ pub fn wrong_lengths(random: &mut Random, call: &mut Call) {
 
 /// Damages sheet, state or list by a field, a bit, a byte or a length.
 pub fn damage(random: &mut Random, call: &mut Call) {
-    match random.below(12) {
-        0..=2 => set_field(random, &layout::SHEET, &SHEET_ENDS, &mut call.sheet, 0),
+    let points = layout::read(&layout::SHEET, &call.sheet)[9];
+    match random.below(14) {
+        12 if points >= 1 => {
+            let at = points_at(&call.sheet) + POINT_BYTES * random.below(points as u64) as usize;
+            set_field(random, &layout::POINT, &POINT_ENDS, &mut call.sheet, at);
+        }
+        13 if points >= 2 => {
+            let way = random.pick(&POINT_DAMAGES);
+            damage_points(random, &mut call.sheet, way);
+        }
+        0..=2 => {
+            set_field(random, &layout::SHEET, &SHEET_ENDS, &mut call.sheet, 0);
+            if random.chance(30) {
+                mend_length(&mut call.sheet);
+            }
+        }
         3 => {
-            let count = (call.sheet.len() - SHEET_BYTES) / SEGMENT_BYTES;
+            let count = (points_at(&call.sheet) - SHEET_BYTES) / SEGMENT_BYTES;
             let at = SHEET_BYTES + SEGMENT_BYTES * random.below(count as u64) as usize;
             let e = layout::read(&layout::SHEET, &call.sheet)[3];
             if random.chance(50) {
@@ -388,10 +483,134 @@ pub fn damage(random: &mut Random, call: &mut Call) {
             let bytes = bytes.into_iter().nth(target as usize).unwrap();
             let length = match random.below(3) {
                 0 => random.below(bytes.len() as u64 + 1) as usize,
-                1 => bytes.len() + random.pick(&[1, 6, 3]),
-                _ => bytes.len().saturating_sub(random.pick(&[1, 6, 3])),
+                1 => bytes.len() + random.pick(&[1, 6, 3, 4]),
+                _ => bytes.len().saturating_sub(random.pick(&[1, 6, 3, 4])),
             };
             bytes.resize(length, random.draw() as u8);
+        }
+    }
+}
+
+/// Where the points of a sheet begin, by its counts.
+pub fn points_at(sheet: &[u8]) -> usize {
+    layout::sheet_length(sheet) - POINT_BYTES * layout::read(&layout::SHEET, sheet)[9] as usize
+}
+
+/// Gives a sheet the length that its counts ask for.
+pub fn mend_length(sheet: &mut Vec<u8>) {
+    sheet.resize(layout::sheet_length(sheet), 0);
+}
+
+/// A way to damage the points of a sheet that passes otherwise.
+#[derive(Clone, Copy, Debug, PartialEq, Eq)]
+pub enum PointDamage {
+    /// The sheet ends before its points or within one, or has one too few or too many.
+    Length,
+    /// c is another one, and the sheet isn't.
+    Count,
+    /// c is 9 to 15, and there are as many points; their temperatures rise, stay or fall.
+    NinePoints,
+    SingleNumber,
+    HeaderZeroBits,
+    Temperature,
+    Coefficient,
+    PointZeroBits,
+    Equal,
+    Falling,
+    /// Falling, with a tangent that breaks its rule.
+    FallingAndTangent,
+    /// Falling, with a field out of its range.
+    FallingAndField,
+    /// Equal, with a wrong length.
+    EqualAndLength,
+}
+
+pub const POINT_DAMAGES: [PointDamage; 13] = [
+    PointDamage::Length,
+    PointDamage::Count,
+    PointDamage::NinePoints,
+    PointDamage::SingleNumber,
+    PointDamage::HeaderZeroBits,
+    PointDamage::Temperature,
+    PointDamage::Coefficient,
+    PointDamage::PointZeroBits,
+    PointDamage::Equal,
+    PointDamage::Falling,
+    PointDamage::FallingAndTangent,
+    PointDamage::FallingAndField,
+    PointDamage::EqualAndLength,
+];
+
+/// Damages a sheet that passes and has two points or more.
+pub fn damage_points(random: &mut Random, sheet: &mut Vec<u8>, way: PointDamage) {
+    let [.., e, _, _, _, _, _, count] = layout::read(&layout::SHEET, sheet);
+    let start = points_at(sheet);
+    let place = |i: i64| start + POINT_BYTES * i as usize;
+    // mostly the first or the last point
+    let any = random.range(0, count - 1);
+    let at = place(random.pick(&[0, count - 1, any]));
+    // the second of two neighbours, mostly of the first two or the last two
+    let any = random.range(1, count - 1);
+    let second = random.pick(&[1, count - 1, any]);
+    let temperature_at = |sheet: &[u8], i: i64| layout::read(&layout::POINT, &sheet[place(i)..])[0];
+    match way {
+        PointDamage::Length => {
+            let fewer = sheet.len() - POINT_BYTES;
+            let length = random.pick(&[start, fewer, fewer + 1, fewer + 2, fewer + 3, fewer + 5, fewer + 8]);
+            sheet.resize(length, 0);
+        }
+        PointDamage::Count => {
+            let other = (count + random.range(1, 15)) % 16;
+            with_field(&layout::SHEET, sheet, 0, 9, other);
+        }
+        PointDamage::NinePoints => {
+            let count = random.range(9, 15);
+            with_field(&layout::SHEET, sheet, 0, 9, count);
+            sheet.truncate(start);
+            let step = random.pick(&[100, 100, 0, -100]);
+            for i in 0..count {
+                sheet.extend(layout::write(&layout::POINT, [step * i, 0, 1_200]));
+            }
+        }
+        PointDamage::SingleNumber => {
+            let single = random.pick(&[1, 1_200, 10_000, 10_001, FULL]);
+            with_field(&layout::SHEET, sheet, 0, 4, single);
+        }
+        PointDamage::HeaderZeroBits => with_field(&layout::SHEET, sheet, 0, 8, random.range(1, 3)),
+        PointDamage::Temperature => {
+            let outside = random.pick(&[-32_768, COLDEST - 1, WARMEST + 1, 32_767]);
+            with_field(&layout::POINT, sheet, at, 0, outside);
+        }
+        PointDamage::Coefficient => with_field(&layout::POINT, sheet, at, 2, random.pick(&[10_001, FULL])),
+        PointDamage::PointZeroBits => with_field(&layout::POINT, sheet, at, 1, random.range(1, 3)),
+        PointDamage::Equal => {
+            let equal = temperature_at(sheet, second - 1);
+            with_field(&layout::POINT, sheet, place(second), 0, equal);
+        }
+        PointDamage::Falling => {
+            // the two exchanged, or the first of them a tenth above the second
+            let (before, after) = (temperature_at(sheet, second - 1), temperature_at(sheet, second));
+            let (before, after) = if random.chance(50) { (after, before) } else { (after, after - 1) };
+            with_field(&layout::POINT, sheet, place(second - 1), 0, before);
+            with_field(&layout::POINT, sheet, place(second), 0, after);
+        }
+        PointDamage::FallingAndTangent => {
+            damage_points(random, sheet, PointDamage::Falling);
+            with_field(&layout::SEGMENT, sheet, SHEET_BYTES, 1, random.pick(&[e, e + 1, FULL]));
+        }
+        PointDamage::FallingAndField => {
+            damage_points(random, sheet, PointDamage::Falling);
+            let field = random.pick(&[
+                PointDamage::Coefficient,
+                PointDamage::PointZeroBits,
+                PointDamage::SingleNumber,
+                PointDamage::HeaderZeroBits,
+            ]);
+            damage_points(random, sheet, field);
+        }
+        PointDamage::EqualAndLength => {
+            damage_points(random, sheet, PointDamage::Equal);
+            damage_points(random, sheet, PointDamage::Length);
         }
     }
 }
@@ -417,13 +636,12 @@ fn near_the_sheet(random: &mut Random, call: &mut Call) {
 /// Buffers of random bytes, some with lengths that fit.
 pub fn random_bytes(random: &mut Random) -> Call {
     let entry = random.pick(&[Entry::Run, Entry::Pair, Entry::Forecast, Entry::Unused]);
-    let length = random.below(100) as usize;
+    let length = random.below(160) as usize;
     let mut sheet = random.bytes(length);
     if random.chance(60) {
-        sheet = random.bytes(SHEET_BYTES + SEGMENT_BYTES);
+        sheet = random.bytes(SHEET_BYTES + SEGMENT_BYTES + 15 * POINT_BYTES);
         sheet[0] = 0x08 | sheet[0] & 0xc0;
-        let counts = sheet[0] as usize;
-        sheet.resize(SHEET_BYTES + SEGMENT_BYTES * ((counts >> 3 & 7) + (counts & 7)), 0);
+        mend_length(&mut sheet);
     }
     let length = if random.chance(70) { STATE_BYTES } else { random.below(80) as usize };
     let state = random.bytes(length);
@@ -441,7 +659,7 @@ pub fn random_bytes(random: &mut Random) -> Call {
 const FULL: i64 = -1;
 
 /// For each field the ends of its range, what lies beside them, and the ends of the field.
-pub const SHEET_ENDS: [&[i64]; 9] = [
+pub const SHEET_ENDS: [&[i64]; 10] = [
     &[0, 1, 2, 3],
     &[0, 1, 2, 3, 4, 5, 6, 7],
     &[0, 1, 2, 3, 4, 5, 6, 7],
@@ -450,11 +668,18 @@ pub const SHEET_ENDS: [&[i64]; 9] = [
     &[-32_768, -2_001, -2_000, -1_999, 0, 19_999, 20_000, 20_001, 32_767],
     &[0, 1, 2, 9_999_999, 10_000_000, 10_000_001, FULL],
     &[0, 1, 2, 9_999_999, 10_000_000, 10_000_001, FULL],
-    &[0, 1, 2, 4, 8, 16, 32, FULL],
+    &[0, 1, 2, FULL],
+    &[0, 1, 2, 3, 4, 5, 6, 7, 8, 9, 10, 11, 12, 13, 14, 15],
 ];
 
 pub const SEGMENT_ENDS: [&[i64]; 2] =
     [&[0, 1, 2, 99_999_999, STRAIN, STRAIN + 1, FULL], &[0, 1, 2, 399_999, 400_000, 400_001, FULL]];
+
+pub const POINT_ENDS: [&[i64]; 3] = [
+    &[-32_768, -2_001, -2_000, -1_999, 0, 19_999, 20_000, 20_001, 32_767],
+    &[0, 1, 2, FULL],
+    &[0, 1, 9_999, 10_000, 10_001, FULL],
+];
 
 pub const STATE_ENDS: [&[i64]; 10] = [
     &[0, 1, 2, 3],

@@ -15,7 +15,7 @@ const fn signed(name: &'static str, width: usize) -> Field {
     Field { name, width, signed: true }
 }
 
-pub const SHEET: [Field; 9] = [
+pub const SHEET: [Field; 10] = [
     unsigned("law", 2),
     unsigned("tension segments", 3),
     unsigned("compression segments", 3),
@@ -24,10 +24,13 @@ pub const SHEET: [Field; 9] = [
     signed("reference temperature", 16),
     unsigned("tension yield", 24),
     unsigned("compression yield", 24),
-    unsigned("zero", 6),
+    unsigned("zero", 2),
+    unsigned("points", 4),
 ];
 
 pub const SEGMENT: [Field; 2] = [unsigned("length", 28), unsigned("tangent", 20)];
+
+pub const POINT: [Field; 3] = [signed("temperature", 16), unsigned("zero", 2), unsigned("coefficient", 14)];
 
 pub const STATE: [Field; 10] = [
     unsigned("law", 2),
@@ -49,6 +52,7 @@ pub const ROW: [Field; 5] =
 
 pub const SHEET_BYTES: usize = 14;
 pub const SEGMENT_BYTES: usize = 6;
+pub const POINT_BYTES: usize = 4;
 pub const STATE_BYTES: usize = 37;
 pub const PAIR_BYTES: usize = 6;
 pub const ROW_BYTES: usize = 16;
@@ -84,6 +88,14 @@ pub fn write<const N: usize>(layout: &[Field; N], values: [i64; N]) -> Vec<u8> {
     bytes
 }
 
+/// The length that a sheet's own counts give it, good or bad: header, segments and points. A byte that isn't there
+/// counts nothing.
+pub fn sheet_length(bytes: &[u8]) -> usize {
+    let byte = |at: usize| bytes.get(at).map_or(0, |&byte| byte as usize);
+    let segments = (byte(0) >> 3 & 7) + (byte(0) & 7);
+    SHEET_BYTES + SEGMENT_BYTES * segments + POINT_BYTES * (byte(13) & 15)
+}
+
 #[cfg(test)]
 mod tests {
     use super::*;
@@ -94,6 +106,7 @@ mod tests {
         let bits = |layout: &[Field]| layout.iter().map(|field| field.width).sum::<usize>();
         assert_eq!(bits(&SHEET), 8 * SHEET_BYTES);
         assert_eq!(bits(&SEGMENT), 8 * SEGMENT_BYTES);
+        assert_eq!(bits(&POINT), 8 * POINT_BYTES);
         assert_eq!(bits(&STATE), 8 * STATE_BYTES);
         assert_eq!(bits(&PAIR), 8 * PAIR_BYTES);
         assert_eq!(bits(&ROW), 8 * ROW_BYTES);
@@ -107,6 +120,8 @@ mod tests {
             assert_eq!(write(&STATE, read(&STATE, &bytes)), bytes);
             let bytes = source.bytes(SHEET_BYTES);
             assert_eq!(write(&SHEET, read(&SHEET, &bytes)), bytes);
+            let bytes = source.bytes(POINT_BYTES);
+            assert_eq!(write(&POINT, read(&POINT, &bytes)), bytes);
             let bytes = source.bytes(ROW_BYTES);
             assert_eq!(write(&ROW, read(&ROW, &bytes)), bytes);
         }
@@ -118,6 +133,19 @@ mod tests {
         assert_eq!(write(&PAIR, [5, 1, -2]), [0xa0, 0x00, 0x00, 0x01, 0xff, 0xfe]);
         assert_eq!(read(&PAIR, &[0xb0, 0x00, 0x00, 0x00, 0x80, 0x00]), [5, -(1 << 28), -32768]);
         assert_eq!(write(&SEGMENT, [1, 2]), [0x00, 0x00, 0x00, 0x10, 0x00, 0x02]);
+        assert_eq!(write(&POINT, [-2, 1, 3]), [0xff, 0xfe, 0x40, 0x03]);
+        assert_eq!(write(&SHEET, [0, 0, 0, 0, 0, 0, 0, 0, 2, 5])[13], 0x25);
         assert_eq!(write(&ROW, [1, 0, 1, -1, 1])[..4], [0x80, 0x00, 0x01, 0xff]);
+    }
+
+    #[test]
+    fn lengths_by_the_counts() {
+        let sheet = |tensions, compressions, points| {
+            sheet_length(&write(&SHEET, [0, tensions, compressions, 0, 0, 0, 0, 0, 0, points]))
+        };
+        assert_eq!(sheet(1, 0, 0), 20);
+        assert_eq!(sheet(7, 0, 8), 88);
+        assert_eq!(sheet(7, 7, 15), 158);
+        assert_eq!(sheet_length(&[]), 14);
     }
 }

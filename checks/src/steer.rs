@@ -1,7 +1,7 @@
 //! What the generator knows of a sheet and a state that pass: enough to aim
-//! pairs at limits and at the starts of segments.
+//! pairs at limits, at the starts of segments and at the points of the expansion.
 
-use crate::layout::{self, SEGMENT_BYTES, SHEET_BYTES};
+use crate::layout::{self, POINT_BYTES, SEGMENT_BYTES, SHEET_BYTES};
 
 /// A segment's start, T there, and its tangent.
 pub struct Piece {
@@ -13,8 +13,10 @@ pub struct Piece {
 pub struct Steel {
     pub law: i64,
     pub e: i64,
-    pub a: i64,
+    a: i64,
     pub reference: i64,
+    /// Temperature and coefficient.
+    pub points: Vec<(i64, i64)>,
     pub tension: Vec<Piece>,
     pub compression: Vec<Piece>,
 }
@@ -30,9 +32,10 @@ pub struct Rod {
 impl Steel {
     /// Of a sheet that passes.
     pub fn read(bytes: &[u8]) -> Steel {
-        let [law, tensions, _, e, a, reference, tension_yield, compression_yield, _] =
+        let [law, tensions, compressions, e, a, reference, tension_yield, compression_yield, _, _] =
             layout::read(&layout::SHEET, bytes);
-        let (tension, compression) = bytes[SHEET_BYTES..].split_at(SEGMENT_BYTES * tensions as usize);
+        let (tension, rest) = bytes[SHEET_BYTES..].split_at(SEGMENT_BYTES * tensions as usize);
+        let (compression, points) = rest.split_at(SEGMENT_BYTES * compressions as usize);
         let side = |yield_field: i64, segments: &[u8]| {
             let (mut start, mut height) = (1_000_000 * yield_field, 1_000_000 * yield_field);
             let mut pieces = Vec::new();
@@ -44,7 +47,23 @@ impl Steel {
             pieces
         };
         let (tension, compression) = (side(tension_yield, tension), side(compression_yield, compression));
-        Steel { law, e, a, reference, tension, compression }
+        let point = |bytes| {
+            let [temperature, _, coefficient] = layout::read(&layout::POINT, bytes);
+            (temperature, coefficient)
+        };
+        let points = points.chunks(POINT_BYTES).map(point).collect();
+        Steel { law, e, a, reference, points, tension, compression }
+    }
+
+    /// Thermal strain.
+    pub fn thermal(&self, temperature: i64) -> i64 {
+        let passed = self.points.iter().filter(|point| point.0 <= temperature).count();
+        let coefficient = match (self.points.get(passed.wrapping_sub(1)), self.points.get(passed)) {
+            (None, None) => self.a,
+            (Some(end), None) | (None, Some(end)) => end.1,
+            (Some(from), Some(to)) => from.1 + ((to.1 - from.1) * (temperature - from.0)).div_euclid(to.0 - from.0),
+        };
+        coefficient * (temperature - self.reference)
     }
 
     /// The floor of T.

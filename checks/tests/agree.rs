@@ -3,8 +3,8 @@
 
 use checks::call::{difference, shortest, Call, Entry};
 use checks::fraction::Fraction;
-use checks::generate;
-use checks::layout::{self, PAIR_BYTES, SHEET_BYTES, STATE_BYTES};
+use checks::generate::{self, PointDamage};
+use checks::layout::{self, PAIR_BYTES, POINT_BYTES, SEGMENT_BYTES, SHEET_BYTES, STATE_BYTES};
 use checks::random::Random;
 use checks::rules::{self, Flow, Law};
 use checks::VERSIONS;
@@ -18,7 +18,7 @@ const _: () = assert!(VALID + DAMAGED + RANDOM + WRONG_LENGTHS >= 300_000);
 /// How often each number was answered, by entry.
 #[derive(Default)]
 struct Tally {
-    numbers: [[usize; 13]; 4],
+    numbers: [[usize; 14]; 4],
 }
 
 impl Tally {
@@ -35,7 +35,7 @@ impl Tally {
         self.numbers[call.entry as usize][wanted.number() as usize] += 1;
     }
 
-    fn of(&self, entry: Entry) -> &[usize; 13] {
+    fn of(&self, entry: Entry) -> &[usize; 14] {
         &self.numbers[entry as usize]
     }
 
@@ -82,11 +82,102 @@ fn damaged_calls() {
         }
         tally.compare(&call);
     }
-    let each = [1, 2, 3, 4, 5, 6, 7, 8, 9, 10, 12];
+    let each = [1, 2, 3, 4, 5, 6, 7, 8, 9, 10, 12, 13];
     tally.assert_seen(Entry::Run, &each, 200);
     tally.assert_seen(Entry::Pair, &each, 20);
-    tally.assert_seen(Entry::Forecast, &[0, 1, 2, 3, 4, 5, 6], 20);
-    tally.assert_seen(Entry::Unused, &[0, 1, 2, 3], 20);
+    tally.assert_seen(Entry::Forecast, &[0, 1, 2, 3, 4, 5, 6, 13], 20);
+    tally.assert_seen(Entry::Unused, &[0, 1, 2, 3, 13], 20);
+}
+
+/// Each way to damage the points, by every entry, with a state and buffers that pass, and with ones that don't: the
+/// number is the sheet's all the same.
+#[test]
+fn damaged_points() {
+    const ROUNDS: usize = 300;
+    const ENTRIES: [Entry; 4] = [Entry::Run, Entry::Pair, Entry::Forecast, Entry::Unused];
+    let mut random = Random::new(110);
+    let mut tally = Tally::default();
+    for way in generate::POINT_DAMAGES {
+        let number = match way {
+            PointDamage::Length | PointDamage::Count | PointDamage::EqualAndLength => 1,
+            PointDamage::FallingAndTangent => 3,
+            PointDamage::Equal | PointDamage::Falling => 13,
+            _ => 2,
+        };
+        for _ in 0..ROUNDS {
+            let mut sheet = generate::sheet_with_points(&mut random, 2);
+            let mut state = generate::unused_state(&sheet);
+            let mut pairs = generate::pairs(&mut random, &sheet, &state, 1, None);
+            generate::damage_points(&mut random, &mut sheet, way);
+            // What is wrong behind the sheet's numbers has no say.
+            match random.below(8) {
+                0 => state.truncate(36),
+                1 => state[0] ^= 0x01,
+                2 => pairs.push(0),
+                3 => pairs[0] |= 0xe0,
+                _ => {}
+            }
+            let mut call = generate::with_buffers(&mut random, Entry::Run, sheet, state, pairs);
+            for entry in ENTRIES {
+                if entry != Entry::Unused && random.chance(15) {
+                    call.rows.truncate(3);
+                    call.next = random.bytes(STATE_BYTES + 1);
+                } else {
+                    call.next = random.bytes(STATE_BYTES);
+                }
+                call.entry = entry;
+                let outcome = rules::call(&call);
+                assert_eq!(outcome.answer, number, "{way:?}\n{call}");
+                assert_eq!(outcome.rows, call.rows);
+                let left = match entry {
+                    Entry::Forecast => &call.next[..],
+                    _ if call.next.len() != STATE_BYTES => &call.next[..],
+                    _ => &[0; STATE_BYTES],
+                };
+                assert_eq!(outcome.next, left);
+                tally.compare(&call);
+            }
+        }
+    }
+    for entry in ENTRIES {
+        tally.assert_seen(entry, &[1, 2, 3, 13], ROUNDS);
+        assert_eq!(tally.of(entry)[13], 2 * ROUNDS);
+    }
+}
+
+/// Sheets with each number of points, at every temperature on a point, beside it, half-way between two and beyond both
+/// ends, from the unused rod.
+#[test]
+fn every_point_is_met() {
+    let mut random = Random::new(111);
+    let mut tally = Tally::default();
+    let mut sheets = [0; 9];
+    for _ in 0..1_000 {
+        let sheet = generate::sheet_with_points(&mut random, 1);
+        let points = rules::read_sheet(&sheet).unwrap().points;
+        sheets[points.len()] += 1;
+        let mut temperatures = vec![-2_000, 20_000];
+        for point in &points {
+            temperatures.extend([point.temperature - 1, point.temperature, point.temperature + 1]);
+        }
+        for two in points.windows(2) {
+            temperatures.push((two[0].temperature + two[1].temperature) / 2);
+            temperatures.push(random.range(two[0].temperature, two[1].temperature));
+        }
+        for temperature in temperatures {
+            // Strain that goes with the heat, as far as it may, leaves a stress that shows each nano.
+            let steel = checks::steer::Steel::read(&sheet);
+            let change = steel.thermal(temperature).clamp(-100_000_000, 100_000_000) + random.range(-1, 1);
+            let pair = layout::write(&layout::PAIR, [0, change, temperature]);
+            let state = generate::unused_state(&sheet);
+            let call = generate::with_buffers(&mut random, Entry::Pair, sheet.clone(), state, pair);
+            tally.compare(&call);
+        }
+    }
+    assert!(sheets[1..].iter().all(|&count| count >= 30), "{sheets:?}");
+    tally.assert_seen(Entry::Pair, &[0], 10_000);
+    // a tenth beside a point at an end of the range
+    tally.assert_seen(Entry::Pair, &[8], 100);
 }
 
 #[test]
@@ -146,17 +237,26 @@ fn ends_of_every_range() {
                 generate::with_field(&layout::SHEET, &mut call.sheet, 0, field, end);
                 each(&call);
                 // With its length mended the sheet passes 1, and the fields are seen.
-                let counts = call.sheet[0] as usize;
-                call.sheet.resize(SHEET_BYTES + 6 * ((counts >> 3 & 7) + (counts & 7)), 0);
+                generate::mend_length(&mut call.sheet);
                 each(&call);
             }
         }
-        for at in (SHEET_BYTES..call.sheet.len()).step_by(6) {
+        let points_at = generate::points_at(&call.sheet);
+        for at in (SHEET_BYTES..points_at).step_by(SEGMENT_BYTES) {
             let e = layout::read(&layout::SHEET, &call.sheet)[3];
             for (field, ends) in generate::SEGMENT_ENDS.iter().enumerate() {
                 for &end in ends.iter().chain(&[e - 1, e, e + 1]) {
                     let mut call = call.clone();
                     generate::with_field(&layout::SEGMENT, &mut call.sheet, at, field, end);
+                    each(&call);
+                }
+            }
+        }
+        for at in (points_at..call.sheet.len()).step_by(POINT_BYTES) {
+            for (field, ends) in generate::POINT_ENDS.iter().enumerate() {
+                for &end in *ends {
+                    let mut call = call.clone();
+                    generate::with_field(&layout::POINT, &mut call.sheet, at, field, end);
                     each(&call);
                 }
             }
@@ -178,7 +278,7 @@ fn ends_of_every_range() {
             }
         }
     }
-    let each = [0, 1, 2, 3, 5, 6, 8, 9];
+    let each = [0, 1, 2, 3, 5, 6, 8, 9, 13];
     tally.assert_seen(Entry::Run, &each, 20);
 }
 
@@ -269,14 +369,65 @@ struct Seen {
     rounded: usize,
     /// 10 by stress, centre, abscissa, n.
     ranges: [usize; 4],
+    /// Calls by the number of the sheet's points: run or single pair, forecast, unused rod.
+    counts: [[usize; 3]; 9],
+    /// Accepted pairs at another temperature than before, on sheets with points.
+    points: PointsSeen,
+}
+
+/// New temperatures, by where they lie.
+#[derive(Debug, Default)]
+struct PointsSeen {
+    below: usize,
+    above: usize,
+    /// At a point, and a tenth beside one.
+    at: usize,
+    beside: usize,
+    /// Between two points whose coefficients rise, fall, are one.
+    between: [usize; 3],
+    /// Between two points where the line isn't whole: rising, falling.
+    rounded: [usize; 2],
+    /// Between two neighbours of which one has coefficient 0 and the other 10,000.
+    steepest: usize,
+    flows: usize,
+}
+
+impl PointsSeen {
+    fn meet(&mut self, points: &[rules::Point], temperature: i64, flow: Flow) {
+        let (Some(first), Some(last)) = (points.first(), points.last()) else { return };
+        self.flows += (flow != Flow::None) as usize;
+        self.below += (temperature < first.temperature) as usize;
+        self.above += (temperature > last.temperature) as usize;
+        self.at += points.iter().any(|point| point.temperature == temperature) as usize;
+        self.beside += points.iter().any(|point| (point.temperature - temperature).abs() == 1) as usize;
+        let inside = |two: &&[rules::Point]| two[0].temperature < temperature && temperature < two[1].temperature;
+        let Some(two) = points.windows(2).find(inside) else { return };
+        let rise = two[1].coefficient - two[0].coefficient;
+        let whole = rules::line(&two[0], &two[1], &Fraction::from(temperature)).whole().is_some();
+        self.between[if rise > 0 { 0 } else { 1 + (rise == 0) as usize }] += 1;
+        self.rounded[(rise < 0) as usize] += !whole as usize;
+        self.steepest += (rise.abs() == 10_000) as usize;
+    }
+
+    fn all(&self) -> bool {
+        let PointsSeen { below, above, at, beside, between, rounded, steepest, flows } = self;
+        let counts = [below, above, at, beside, steepest, flows];
+        counts.into_iter().chain(between).chain(rounded).all(|&count| count >= 300)
+    }
 }
 
 impl Seen {
     fn walk(&mut self, call: &Call) {
+        let sheet = rules::read_sheet(&call.sheet).unwrap();
+        let counts = &mut self.counts[sheet.points.len()];
+        match call.entry {
+            Entry::Run | Entry::Pair => counts[0] += 1,
+            Entry::Forecast => counts[1] += 1,
+            Entry::Unused => counts[2] += 1,
+        }
         if call.entry == Entry::Forecast || call.entry == Entry::Unused {
             return;
         }
-        let sheet = rules::read_sheet(&call.sheet).unwrap();
         let mut state = rules::read_state(&call.state).unwrap();
         let law = sheet.law as usize;
         for bytes in call.pairs.chunks(PAIR_BYTES) {
@@ -294,6 +445,9 @@ impl Seen {
                     self.thermal += (flow != Flow::None && state.temperature != pair.temperature) as usize;
                     self.rounded += (flow != Flow::None && exact != stored) as usize;
                     self.meet(&sheet, &old, &trial, flow, &stored);
+                    if state.temperature != pair.temperature {
+                        self.points.meet(&sheet.points, pair.temperature, flow);
+                    }
                     state = new;
                 }
                 Err(10) => {
@@ -338,6 +492,8 @@ impl Seen {
         assert!(self.segments.iter().all(|&count| count >= 200), "{self:#?}");
         assert!(self.at_start >= 1_000 && self.thermal >= 5_000 && self.rounded >= 5_000, "{self:#?}");
         assert!(self.ranges.iter().all(|&count| count >= 100), "{self:#?}");
+        assert!(self.counts.iter().flatten().all(|&count| count >= 50), "{self:#?}");
+        assert!(self.points.all(), "{self:#?}");
     }
 }
 
@@ -361,16 +517,25 @@ fn a_state_of_any_length() {
 fn a_sheet_of_any_length() {
     let mut random = Random::new(109);
     let mut tally = Tally::default();
+    let mut compare = |counts: u8, points: Option<i64>, length: Option<usize>| {
+        let mut sheet = generate::sheet(&mut random);
+        if let Some(points) = points {
+            generate::with_field(&layout::SHEET, &mut sheet, 0, 9, points);
+        }
+        sheet[0] = counts;
+        let length = length.unwrap_or(layout::sheet_length(&sheet) + random.below(3) as usize - 1);
+        sheet.resize(length, 0);
+        let state = random.bytes(STATE_BYTES);
+        let call = generate::with_buffers(&mut random, Entry::Unused, sheet, state, Vec::new());
+        tally.compare(&call);
+    };
     for counts in 0..=255 {
-        for length in 0..=100 {
-            let mut sheet = generate::sheet(&mut random);
-            sheet.resize(length, 0);
-            if let Some(byte) = sheet.first_mut() {
-                *byte = counts;
-            }
-            let state = random.bytes(STATE_BYTES);
-            let call = generate::with_buffers(&mut random, Entry::Unused, sheet, state, Vec::new());
-            tally.compare(&call);
+        for length in 0..=160 {
+            compare(counts, None, Some(length));
+        }
+        // The length that all three counts give, and a byte less or more.
+        for points in 0..16 {
+            compare(counts, Some(points), None);
         }
     }
     tally.assert_seen(Entry::Unused, &[1, 2], 100);

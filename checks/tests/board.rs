@@ -1,11 +1,11 @@
 //! The board (SPEC 13): every row, by the rules, by the quick version and by the
-//! library.
+//! library. Beside it some thermal strains by points, worked by hand.
 
 use checks::call::{difference, Call, Entry, Outcome};
 use checks::fraction::Fraction;
 use checks::generate::sheet_bytes;
 use checks::layout;
-use checks::log::{line, steel};
+use checks::log::{line, steel, with_points};
 use checks::rules::{self, Row};
 use checks::VERSIONS;
 
@@ -95,7 +95,7 @@ fn curve() {
 
 #[test]
 fn two_thirds_of_a_grain() {
-    let sheet = sheet_bytes([0, 1, 0, 3, 1_200, 200, 1, 0, 0], &[[0, 1]]);
+    let sheet = sheet_bytes([0, 1, 0, 3, 1_200, 200, 1, 0, 0, 0], &[[0, 1]], &[]);
     assert_eq!(stresses(&sheet, &[333_334]), [(1_000_000, true)]);
     let sheet = rules::read_sheet(&sheet).unwrap();
     let exact = rules::solution(&sheet, &rules::unused(&sheet).numbers(), &Fraction::from(3 * 333_334));
@@ -112,4 +112,56 @@ fn empty_list() {
 fn ends_of_the_strain_change() {
     assert_eq!(run(&line(0), &[(200_000_000, 200)]).0.answer, 9 + 256);
     assert_eq!(run(&line(0), &[(200_000_001, 200)]).0.answer, 8 + 256);
+}
+
+/// The strain change that is the thermal strain leaves no stress: coefficient times (temperature − 200).
+#[test]
+fn expansion_by_points() {
+    let sheet = with_points(line(0), &[(500, 1_100), (1_000, 1_300), (1_500, 1_250)]);
+    for (temperature, coefficient) in [
+        (-2_000, 1_100),
+        (200, 1_100),
+        (499, 1_100),
+        (500, 1_100),
+        (501, 1_100), // 1100 2/5
+        (750, 1_200), // half-way
+        (751, 1_200), // 1200 2/5
+        (999, 1_299), // 1299 3/5
+        (1_000, 1_300),
+        (1_001, 1_299), // 1299 9/10
+        (1_010, 1_299), // whole
+        (1_499, 1_250), // 1250 1/10
+        (1_500, 1_250),
+        (1_501, 1_250),
+        (20_000, 1_250),
+    ] {
+        let (outcome, rows, _) = run(&sheet, &[(coefficient * (temperature - 200), temperature)]);
+        assert_eq!((outcome.answer, rows[0].stress, rows[0].plastic), (0, 0, 0), "at {temperature}");
+    }
+}
+
+/// A falling line: 1499 29/30 is 1499, not 1500.
+#[test]
+fn rounded_down_on_a_falling_line() {
+    let sheet = with_points(line(0), &[(200, 1_500), (3_200, 1_400)]);
+    let (outcome, rows, _) = run(&sheet, &[(0, 201)]);
+    assert_eq!((outcome.answer, rows[0].stress), (0, -200_000 * 1_499));
+}
+
+/// From one temperature to another the coefficient of each is taken: 1300 × 800 − 1100 × 300 nano.
+#[test]
+fn each_temperature_has_its_own_coefficient() {
+    let sheet = with_points(line(0), &[(500, 1_100), (1_000, 1_300), (1_500, 1_250)]);
+    let (outcome, rows, _) = run(&sheet, &[(330_000, 500), (710_001, 1_000), (0, 200)]);
+    let stresses: Vec<i64> = rows.iter().map(|row| row.stress).collect();
+    // the last would be 208,000,200,000 without its limit
+    assert_eq!((outcome.answer, stresses), (0, vec![0, 200_000, 200_080_002_000]));
+}
+
+#[test]
+fn points_that_do_not_rise() {
+    for second in [500, 499] {
+        let sheet = with_points(line(0), &[(500, 1_100), (second, 1_300)]);
+        assert_eq!(run(&sheet, &[(0, 200)]).0.answer, 13);
+    }
 }

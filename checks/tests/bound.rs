@@ -32,8 +32,11 @@ struct Seen {
     far: usize,
     /// Stops whose stress is further than nine tenths of k from the bar's.
     very_far: usize,
+    /// Pairs at another temperature than before, on a sheet with points, and those of them that yielded.
+    heated: usize,
+    heated_yielded: usize,
     /// Calls by their number.
-    numbers: [usize; 13],
+    numbers: [usize; 14],
 }
 
 impl<'a> Walk<'a> {
@@ -67,15 +70,19 @@ impl<'a> Walk<'a> {
         };
         let outcome = (self.version)(&given);
         self.seen.numbers[outcome.number() as usize] += 1;
-        self.demand(!(1..=6).contains(&outcome.number()), "a call of the list meets 1 to 6");
+        self.demand(!matches!(outcome.number(), 1..=6 | 13), "a call of the list meets 1 to 6 or 13");
         let after = if next == 37 { outcome.next.clone() } else { self.state.clone() };
         let accepted = outcome.accepted(pairs);
         for j in 1..=accepted {
             let pair = &pairs[6 * (j - 1)..6 * j];
+            let before = self.bar.temperature.clone();
             self.bar.feed(&rules::read_pair(pair).unwrap());
             self.history.extend(pair);
             let row = Row::read(&outcome.rows[16 * (j - 1)..]);
             self.yielded += row.yielded as i64;
+            let heated = !self.sheet.points.is_empty() && self.bar.temperature != before;
+            self.seen.heated += heated as usize;
+            self.seen.heated_yielded += (heated && row.yielded) as usize;
             let state = if j == accepted { after.clone() } else { self.state_inside(&given, j) };
             let stored = self.stop(&state);
             let plastic = plastic(self.sheet, &stored);
@@ -205,6 +212,8 @@ fn histories(seed: u64, rounds: usize, length: usize, longest: i64) -> Seen {
             all.yielded += seen.yielded;
             all.far += seen.far;
             all.very_far += seen.very_far;
+            all.heated += seen.heated;
+            all.heated_yielded += seen.heated_yielded;
             for (total, number) in all.numbers.iter_mut().zip(seen.numbers) {
                 *total += number;
             }
@@ -214,6 +223,7 @@ fn histories(seed: u64, rounds: usize, length: usize, longest: i64) -> Seen {
         println!("{all:?}");
     }
     assert!(all.yielded * 3 >= all.stops, "few flows: {all:?}");
+    assert!(all.heated * 50 >= all.stops && all.heated_yielded * 3 >= all.heated, "few heats: {all:?}");
     assert!([0, 7, 8, 9, 12].iter().all(|&number| all.numbers[number] > 0), "{all:?}");
     assert_eq!(all.numbers[11], 0);
     all

@@ -22,7 +22,7 @@ fn sheet(random: &mut Random) -> Sheet {
     let segments = if law == Law::Curve { random.range(2, 3) as usize } else { 1 };
     let tension = side(random, modulus, segments);
     let compression = (law == Law::Asymmetric).then(|| side(random, modulus, 1));
-    Sheet { law, modulus, expansion: 0, reference: 0, tension, compression }
+    Sheet { law, modulus, expansion: 0, points: Vec::new(), reference: 0, tension, compression }
 }
 
 /// Old numbers within their limits; fractions, as the bar without rounding has them.

@@ -1,5 +1,5 @@
 //! The sample logs in `examples/` are the ones that the rules write, and each
-//! number from 1 to 10 has one. The programs are run on those logs.
+//! number from 1 to 10, and 13, has one. The programs are run on those logs.
 
 use checks::log::{replay, samples, table, walk};
 use std::fs;
@@ -32,7 +32,7 @@ fn the_programs_read_and_print_the_samples() {
 #[test]
 fn each_number_has_a_log() {
     let printed: Vec<String> = samples().iter().map(|log| walk(&log.bytes)).collect();
-    for number in 1..=10 {
+    for number in (1..=10).chain([13]) {
         let start = format!("refused {number} at ");
         assert!(printed.iter().any(|text| text.lines().last().unwrap().starts_with(&start)), "no log meets {number}");
     }

@@ -4,10 +4,10 @@
 
 use checks::call::{Call, Entry, Outcome};
 use checks::fraction::Fraction;
-use checks::generate;
-use checks::layout::{self, PAIR_BYTES, ROW_BYTES};
+use checks::generate::{self, POINT_DAMAGES};
+use checks::layout::{self, PAIR_BYTES, POINT_BYTES, ROW_BYTES};
 use checks::random::Random;
-use checks::rules::{self, Flow, Law, Numbers, Pair, Row, Sheet, Side, State};
+use checks::rules::{self, Flow, Law, Numbers, Pair, Point, Row, Sheet, Side, State};
 
 const CALLS: usize = 20_000;
 
@@ -16,6 +16,23 @@ fn is_found(version: impl Fn(&Call) -> Outcome) -> bool {
     let mut random = Random::new(400);
     (0..CALLS).any(|_| {
         let call = generate::valid(&mut random);
+        version(&call) != rules::call(&call)
+    })
+}
+
+/// Whether a version differs from the rules on one of the calls whose sheet has damaged points.
+fn is_found_by_damage(version: impl Fn(&Call) -> Outcome) -> bool {
+    let mut random = Random::new(401);
+    (0..CALLS).any(|_| {
+        let mut call = generate::valid(&mut random);
+        let way = random.pick(&POINT_DAMAGES);
+        if layout::read(&layout::SHEET, &call.sheet)[9] < 2 {
+            return false;
+        }
+        generate::damage_points(&mut random, &mut call.sheet, way);
+        if random.chance(20) {
+            call.state.pop();
+        }
         version(&call) != rules::call(&call)
     })
 }
@@ -38,9 +55,19 @@ enum Slip {
     TangentOfTheOldSegment,
     RangeBeforeStrain,
     ThermalStrainForgotten,
+    CoefficientUp,
+    CoefficientUpOnAFallingLine,
+    CoefficientOfThePointBefore,
+    CoefficientNotRounded,
+    ThermalStrainRounded,
+    ExtrapolatedBelow,
+    ExtrapolatedAbove,
+    CoefficientAtTheOldTemperature,
+    SingleNumberBesidePoints,
+    ChangeByTheNewCoefficient,
 }
 
-const SLIPS: [Slip; 13] = [
+const SLIPS: [Slip; 23] = [
     Slip::FlowAtEquality,
     Slip::NegativeStressDown,
     Slip::OtherDivisorBehindTheFirstSegment,
@@ -54,7 +81,54 @@ const SLIPS: [Slip; 13] = [
     Slip::TangentOfTheOldSegment,
     Slip::RangeBeforeStrain,
     Slip::ThermalStrainForgotten,
+    Slip::CoefficientUp,
+    Slip::CoefficientUpOnAFallingLine,
+    Slip::CoefficientOfThePointBefore,
+    Slip::CoefficientNotRounded,
+    Slip::ThermalStrainRounded,
+    Slip::ExtrapolatedBelow,
+    Slip::ExtrapolatedAbove,
+    Slip::CoefficientAtTheOldTemperature,
+    Slip::SingleNumberBesidePoints,
+    Slip::ChangeByTheNewCoefficient,
 ];
+
+/// The coefficient at a temperature, with a slip.
+fn coefficient(slip: Slip, sheet: &Sheet, temperature: i64) -> Fraction {
+    let at = Fraction::from(temperature);
+    let points = &sheet.points;
+    if points.is_empty() || slip == Slip::SingleNumberBesidePoints {
+        return Fraction::from(sheet.expansion);
+    }
+    // The line of the two points whose stretch holds the temperature, or the one nearest to it.
+    let above = points.iter().position(|point| temperature <= point.temperature).unwrap_or(points.len());
+    let below = above == 0;
+    let beyond = below || above == points.len();
+    let extrapolated = if below { Slip::ExtrapolatedBelow } else { Slip::ExtrapolatedAbove };
+    if points.len() == 1 || beyond && slip != extrapolated {
+        return Fraction::from(points[above.min(points.len() - 1)].coefficient);
+    }
+    let two: &[Point] = &points[above.clamp(1, points.len() - 1) - 1..][..2];
+    let falls = two[1].coefficient < two[0].coefficient;
+    let exact = rules::line(&two[0], &two[1], &at);
+    match slip {
+        Slip::CoefficientUp => exact.ceiling(),
+        Slip::CoefficientUpOnAFallingLine if falls => exact.ceiling(),
+        Slip::CoefficientOfThePointBefore if two[1].temperature == temperature => Fraction::from(two[0].coefficient),
+        Slip::CoefficientNotRounded | Slip::ThermalStrainRounded => exact,
+        _ => exact.floor(),
+    }
+}
+
+/// Thermal strain, with a slip.
+fn thermal(slip: Slip, sheet: &Sheet, temperature: i64) -> Fraction {
+    let above = Fraction::from(temperature - sheet.reference);
+    let strain = &coefficient(slip, sheet, temperature) * &above;
+    if slip == Slip::CoefficientNotRounded {
+        return strain;
+    }
+    strain.floor()
+}
 
 /// One pair, computed with a slip; without one as the rules have it.
 fn step(slip: Slip, sheet: &Sheet, state: &State, pair: &Pair) -> Result<(State, Row), u64> {
@@ -65,8 +139,20 @@ fn step(slip: Slip, sheet: &Sheet, state: &State, pair: &Pair) -> Result<(State,
     }
     let old = state.numbers();
     let whole = |value: i64| Fraction::from(value);
-    let now = if slip == Slip::ThermalStrainForgotten { state.temperature } else { pair.temperature };
-    let trial = sheet.trial(&old.stress, &whole(pair.change), &whole(state.temperature), &whole(now));
+    let before = thermal(slip, sheet, state.temperature);
+    let after = match slip {
+        Slip::ThermalStrainForgotten => before.clone(),
+        Slip::CoefficientAtTheOldTemperature => {
+            &coefficient(slip, sheet, state.temperature) * &whole(pair.temperature - sheet.reference)
+        }
+        Slip::ChangeByTheNewCoefficient => {
+            let step = whole(pair.temperature - state.temperature);
+            &before + &(&coefficient(slip, sheet, pair.temperature) * &step)
+        }
+        _ => thermal(slip, sheet, pair.temperature),
+    };
+    let mechanical = &whole(pair.change) - &(&after - &before);
+    let trial = &old.stress + &(&whole(sheet.modulus) * &mechanical);
     let (stored, flow, tangent) = flowed(slip, sheet, &old, &trial, pair.change);
 
     let in_range = |value: &Fraction, end: i64| value.abs() <= whole(end);
@@ -82,17 +168,20 @@ fn step(slip: Slip, sheet: &Sheet, state: &State, pair: &Pair) -> Result<(State,
         return Err(9);
     }
     let yielded = flow != Flow::None;
-    let plastic = sheet.plastic(&whole(strain), &whole(pair.temperature), &stored.stress);
-    let stress = stored.stress.whole().unwrap();
-    let row = Row { yielded, tangent, stress, plastic: plastic.whole().unwrap() };
+    let load = &whole(sheet.modulus) * &(&whole(strain) - &thermal(slip, sheet, pair.temperature));
+    let plastic = &load - &stored.stress;
+    // An unrounded coefficient may leave a part of a grain.
+    let cut = |value: &Fraction| value.floor().whole().unwrap();
+    let stress = cut(&stored.stress);
+    let row = Row { yielded, tangent, stress, plastic: cut(&plastic) };
     let state = State {
         law: state.law,
         yielded,
         strain,
         temperature: pair.temperature,
         stress,
-        first: stored.first.whole().unwrap(),
-        second: stored.second.whole().unwrap(),
+        first: cut(&stored.first),
+        second: cut(&stored.second),
         n: state.n + 1,
         k: state.k + yielded as i64,
     };
@@ -274,4 +363,139 @@ fn each_sham_is_found() {
     assert!(is_found(writes_a_constant_row));
     assert!(is_found(turns_every_sheet_away));
     assert!(is_found(clears_the_rows_behind));
+}
+
+// ---- slips about the sheet ----
+
+/// The temperatures of a sheet that passes 1.
+fn temperatures(sheet: &[u8]) -> Vec<i64> {
+    let points = &sheet[generate::points_at(sheet)..];
+    points.chunks(POINT_BYTES).map(|bytes| layout::read(&layout::POINT, bytes)[0]).collect()
+}
+
+fn rise(sheet: &[u8]) -> bool {
+    temperatures(sheet).windows(2).all(|two| two[0] < two[1])
+}
+
+/// The rules' outcome, but with the number 13 where `condition` says so.
+fn with_13(call: &Call, condition: impl Fn(u64) -> bool) -> Outcome {
+    let outcome = rules::call(call);
+    if condition(outcome.answer) && !rise(&call.sheet) {
+        return Outcome { answer: 13, ..outcome };
+    }
+    outcome
+}
+
+fn refuses_13_before_3(call: &Call) -> Outcome {
+    with_13(call, |number| number == 3)
+}
+
+fn refuses_13_before_2(call: &Call) -> Outcome {
+    with_13(call, |number| number == 2)
+}
+
+/// The state's length is looked at before the points.
+fn refuses_13_behind_4(call: &Call) -> Outcome {
+    let outcome = rules::call(call);
+    if outcome.answer == 13 && call.entry != Entry::Unused && call.state.len() != 37 {
+        return Outcome { answer: 4, ..outcome };
+    }
+    outcome
+}
+
+/// Points at one temperature pass, and the first of them holds.
+fn accepts_equal_temperatures(call: &Call) -> Outcome {
+    let outcome = rules::call(call);
+    if outcome.answer != 13 {
+        return outcome;
+    }
+    let at = generate::points_at(&call.sheet);
+    let (head, points) = call.sheet.split_at(at);
+    let mut points: Vec<&[u8]> = points.chunks(POINT_BYTES).collect();
+    points.dedup_by_key(|bytes| layout::read(&layout::POINT, bytes)[0]);
+    let mut sheet = [head, &points.concat()].concat();
+    generate::with_field(&layout::SHEET, &mut sheet, 0, 9, points.len() as i64);
+    rules::call(&Call { sheet, ..call.clone() })
+}
+
+/// Only the first two points and the last two are compared.
+fn looks_at_the_ends_only(call: &Call) -> Outcome {
+    let outcome = rules::call(call);
+    if outcome.answer != 13 {
+        return outcome;
+    }
+    match temperatures(&call.sheet)[..] {
+        [first, second, .., before, last] if first < second && before < last => Outcome { answer: 0, ..outcome },
+        _ => outcome,
+    }
+}
+
+/// What a refusal leaves goes by `number <= 6`.
+fn leaves_the_old_state_on_13(call: &Call) -> Outcome {
+    let mut outcome = rules::call(call);
+    if outcome.answer == 13 && outcome.next.len() == call.state.len() {
+        outcome.next = call.state.clone();
+    }
+    outcome
+}
+
+/// Of a sheet that is refused with 2 a field is taken for another value.
+fn accepts_where(call: &Call, field: usize, value: i64) -> Outcome {
+    let outcome = rules::call(call);
+    if outcome.answer != 2 {
+        return outcome;
+    }
+    let mut call = call.clone();
+    generate::with_field(&layout::SHEET, &mut call.sheet, 0, field, value);
+    rules::call(&call)
+}
+
+/// The single number may stand beside points.
+fn accepts_a_single_number_beside_points(call: &Call) -> Outcome {
+    accepts_where(call, 4, 0)
+}
+
+fn ignores_the_zero_bits_of_the_header(call: &Call) -> Outcome {
+    accepts_where(call, 8, 0)
+}
+
+/// A sheet of nine points or more is taken with its first eight.
+fn accepts_nine_points(call: &Call) -> Outcome {
+    let outcome = rules::call(call);
+    if outcome.answer != 2 || layout::read(&layout::SHEET, &call.sheet)[9] <= 8 {
+        return outcome;
+    }
+    let mut sheet = call.sheet.clone();
+    generate::with_field(&layout::SHEET, &mut sheet, 0, 9, 8);
+    generate::mend_length(&mut sheet);
+    rules::call(&Call { sheet, ..call.clone() })
+}
+
+/// The length without the points.
+fn forgets_the_points_in_the_length(call: &Call) -> Outcome {
+    let outcome = rules::call(call);
+    let points = layout::read(&layout::SHEET, &call.sheet)[9] as usize;
+    if outcome.answer == 1 && call.sheet.len() == layout::sheet_length(&call.sheet) - POINT_BYTES * points {
+        return Outcome { answer: 0, ..outcome };
+    }
+    outcome
+}
+
+#[test]
+fn without_a_slip_the_damage_finds_nothing() {
+    assert!(!is_found_by_damage(rules::call));
+}
+
+#[test]
+fn each_slip_about_the_points_is_found() {
+    assert!(is_found_by_damage(refuses_13_before_3));
+    assert!(is_found_by_damage(refuses_13_before_2));
+    assert!(is_found_by_damage(refuses_13_behind_4));
+    assert!(is_found_by_damage(accepts_equal_temperatures));
+    assert!(is_found_by_damage(looks_at_the_ends_only));
+    assert!(is_found_by_damage(leaves_the_old_state_on_13));
+    assert!(is_found_by_damage(accepts_a_single_number_beside_points));
+    assert!(is_found_by_damage(ignores_the_zero_bits_of_the_header));
+    assert!(is_found_by_damage(accepts_nine_points));
+    assert!(is_found_by_damage(forgets_the_points_in_the_length));
 }

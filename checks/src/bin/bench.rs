@@ -4,6 +4,7 @@
 
 use checks::generate::{self, sheet_bytes};
 use checks::layout;
+use checks::log::with_points;
 use checks::random::Random;
 use checks::{library, plain};
 use std::hint::black_box;
@@ -12,6 +13,10 @@ use std::time::Instant;
 const PAIRS: usize = 4_096;
 const ROUNDS: usize = 25;
 const RUNS_A_ROUND: usize = 20;
+
+/// Around the single number, and within the temperatures of both lists, 200 to 263 and 200 to 250.
+const POINTS: [(i64, i64); 8] =
+    [(203, 1_187), (209, 1_191), (216, 1_196), (223, 1_201), (229, 1_204), (236, 1_211), (243, 1_209), (249, 1_217)];
 
 type Carry = fn(&[u8], &[u8], &[u8], &mut [u8], &mut [u8]) -> u64;
 
@@ -88,7 +93,8 @@ fn main() {
     let steel = |law, compressions, segments: &[[i64; 2]]| {
         let tensions = segments.len() as i64 - compressions;
         let compression_yield = if law == 3 { 250_000 } else { 0 };
-        sheet_bytes([law, tensions, compressions, 200_000, 1_200, 200, 200_000, compression_yield, 0], segments)
+        let head = [law, tensions, compressions, 200_000, 1_200, 200, 200_000, compression_yield, 0, 0];
+        sheet_bytes(head, segments, &[])
     };
     let seven: Vec<[i64; 2]> = (0..7).map(|i| [if i < 6 { 40_000_000 } else { 0 }, 14_000 - 2_000 * i]).collect();
     let sheets = [
@@ -100,19 +106,23 @@ fn main() {
     ];
     println!("{PAIRS} pairs, nanoseconds a pair, the least of {ROUNDS} rounds; ratio plain / proved");
     println!("buffers are allocated once and not cleared between calls");
-    println!("{:42} {:>6} {:>8} {:>8} {:>6}", "", "flows", "proved", "plain", "ratio");
+    println!("8 points: the same steel, its expansion by points that the temperatures cross");
+    println!("{:50} {:>6} {:>8} {:>8} {:>6}", "", "flows", "proved", "plain", "ratio");
     let ways: [(&str, Way, [Carry; 2]); 2] =
         [("whole run", whole, [library::run, plain::run]), ("single pairs", single, [library::pair, plain::pair])];
     for (way_name, way, versions) in ways {
         for (sheet_name, sheet) in &sheets {
+            let pointed = with_points(sheet.clone(), &POINTS);
             for (input, pairs) in [("cycles", cycles()), ("mixed", mixed(sheet))] {
-                let label = format!("{way_name}, {sheet_name}, {input}");
-                if !label.contains(&only) {
-                    continue;
+                for (points, sheet) in [("", sheet), ("8 points, ", &pointed)] {
+                    let label = format!("{way_name}, {sheet_name}, {points}{input}");
+                    if !label.contains(&only) {
+                        continue;
+                    }
+                    let [proved, quick] = measure(way, versions, sheet, &pairs);
+                    let flows = flows(sheet, &pairs);
+                    println!("{label:50} {flows:>4} % {proved:8.2} {quick:8.2} {:6.2}", quick / proved);
                 }
-                let [proved, quick] = measure(way, versions, sheet, &pairs);
-                let flows = flows(sheet, &pairs);
-                println!("{label:42} {flows:>4} % {proved:8.2} {quick:8.2} {:6.2}", quick / proved);
             }
         }
     }
