@@ -71,7 +71,8 @@ impl Coefficients {
         true
     }
 
-    // The coefficient at a temperature: beyond the ends the end's, else on the line between the two points around it.
+    // The coefficient at a temperature: beyond the ends the end's, else on the line between the two points around it. The loop's bound is
+    // a fixed one, so that the compiler writes its turns out, each with its own place, and needn't copy the array to walk it.
     pub fn at(self, temperature: Tenths) -> Expansion
         requires { ⌜ Usable self ⌝ }
         ensures { λ r. ⌜ pos (r .0) ≡ coefficientOf self (temperature .0) ⌝ }
@@ -85,7 +86,10 @@ impl Coefficients {
             return before.coefficient;
         }
         let mut next = 1;
-        while next < self.count {
+        while next < MOST_POINTS {
+            if next == self.count {
+                return before.coefficient;
+            }
             let after = self.points[next];
             if temperature.below(after.temperature) {
                 return before.toward(after, temperature);
