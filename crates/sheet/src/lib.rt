@@ -559,16 +559,17 @@ fn read_behind(s: &[u8], header: Header) -> SheetRead
     let tension_falls = tangents_right(s, 0, tensions, modulus);
     let compression_falls = tangents_right(s, tensions, compressions, modulus);
     let tangents_right = tension_falls & compression_falls;
-    if !tangents_right {
-        return refused(Verdict::WrongTangent);
-    }
     let tension_segments = tension.segments;
     let compression_segments = compression.segments;
     let all_points = points.points;
     let read = accepted(header, tension_segments, compression_segments, all_points);
     let sheet = read.sheet;
     let coefficients = sheet.expansion;
-    if !coefficients.rise() {
+    let points_rise = coefficients.rise();
+    if !tangents_right {
+        return refused(Verdict::WrongTangent);
+    }
+    if !points_rise {
         return refused(Verdict::UnorderedPoints);
     }
     read

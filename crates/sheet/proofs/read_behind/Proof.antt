@@ -96,21 +96,8 @@ tangents-right-requires-2 c κs =
     let first = begun (c .before .before .before) in
     (few first .0, few first .1, modulus-is first)
 
-returns-2 : tie.Need-returns-2
-unfolding firstOf sheetFieldRefusals
-returns-2 c =
-    let tangents = c .before .before in
-    let fields = tested tangents in
-    rw (c .refused2 .ensures, begun fields .pre .0, fields-right fields) (simp (sym (tangents-are tangents) ∙ not-true _ (c .before .if2 .taken)))
-
--- Past the test of the tangents.
 abbrev fields-of : tie.After-accepted → tie.Else1
-fields-of c = tested (c .before .before .before .before .before)
-
-falls : (c : tie.After-accepted) → let s = begun (fields-of c) .args .s .now in bothSides s (tangentsRight s) ≡ true
-falls c =
-    let past = c .before .before .before .before in
-    sym (tangents-are (past .before)) ∙ not-false _ (past .if2 .left)
+fields-of c = tested (c .before .before .before .before)
 
 accepted-is : (c : tie.After-accepted) → let s = begun (fields-of c) .args .s .now in
     c .accepted .result ≡ acceptedAs (headerOf s) (segmentsIn s 0 (tensionCount s)) (segmentsIn s (tensionCount s) (compressionCount s)) (placed mostPoints noPoint (pointsIn s))
@@ -138,21 +125,39 @@ rise-is c =
     c .rise .ensures ∙ ap (λ (r : SheetRead). temperaturesRise (pointsOf (r .sheet .expansion))) (accepted-is accepted)
     ∙ ap temperaturesRise (placed-first mostPoints noPoint (pointIn s) 0 (pointCount s))
 
+-- Where the points were judged.
+abbrev accepted-of : tie.After-rise → tie.After-accepted
+accepted-of c = c .before .before .before
+
+falls-are : (c : tie.After-rise) → let s = begun (fields-of (accepted-of c)) .args .s .now in
+    accepted-of c .before .before .before .before .before .tangents-right .result && accepted-of c .before .before .before .before .tangents-right2 .result
+    ≡ bothSides s (tangentsRight s)
+falls-are c = tangents-are (accepted-of c .before .before .before .before)
+
+returns-2 : tie.Need-returns-2
+unfolding firstOf sheetFieldRefusals
+returns-2 c =
+    let rise = c .before .before in
+    let fields = fields-of (accepted-of rise) in
+    rw (c .refused2 .ensures, begun fields .pre .0, fields-right fields) (simp (sym (falls-are rise) ∙ not-true _ (c .before .if2 .taken)))
+
 returns-3 : tie.Need-returns-3
 unfolding firstOf sheetFieldRefusals
 returns-3 c =
-    let rise = c .before .before in
-    let accepted = rise .before .before .before in
-    let fields = fields-of accepted in
-    rw (c .refused3 .ensures, begun fields .pre .0, fields-right fields, falls accepted) (simp (sym (rise-is rise) ∙ not-true _ (c .before .if3 .taken)))
+    let past = c .before .before in
+    let fields = fields-of (accepted-of (past .before)) in
+    let falls = sym (falls-are (past .before)) ∙ not-false _ (past .if2 .left) in
+    rw (c .refused3 .ensures, begun fields .pre .0, fields-right fields, falls) (simp (sym (rise-is (past .before)) ∙ not-true _ (c .before .if3 .taken)))
 
 returns-4 : tie.Need-returns-4
 unfolding firstOf sheetFieldRefusals sheetOf
 returns-4 c =
-    let accepted = c .before .before .before .before in
+    let past = c .before in
+    let accepted = accepted-of (past .before) in
     let fields = fields-of accepted in
-    let rises = sym (rise-is (c .before)) ∙ not-false _ (c .if3 .left) in
-    rw (accepted-is accepted, begun fields .pre .0, fields-right fields, falls accepted, rises)
+    let falls = sym (falls-are (past .before)) ∙ not-false _ (past .if2 .left) in
+    let rises = sym (rise-is (past .before)) ∙ not-false _ (c .if3 .left) in
+    rw (accepted-is accepted, begun fields .pre .0, fields-right fields, falls, rises)
 
 pub read-behind-spec : {M : Type 1} → statement M
 read-behind-spec =
@@ -166,9 +171,9 @@ read-behind-spec =
     tangents-right-requires
     tangents-right-requires-2
     (λ c κs. search needs)
-    returns-2
-    (λ c κs. search needs)
     rise-requires
+    (λ c κs. search needs)
+    returns-2
     (λ c κs. search needs)
     returns-3
     returns-4)

@@ -1,7 +1,10 @@
 use Prim.Native.Nat.{ℕ}
 use mathlib.Core.Path.{_≡_, sym, ap, _∙_}
+use mathlib.Core.Bool.{true}
 use Rattle.refusals.specs.Table.{passes, refused, firstOf}
+use Rattle.ranges.specs.Ranges.{temperatureRight}
 use Rattle.pair.proofs.PairLaws.{pair-facts}
+use Rattle.rod.proofs.RangeFacts.{ranged}
 use Rattle.rod.specs.Steps.{stepMeaning, stepRefusals, advanceOf}
 use Rattle.carry.specs.declared.Reached.{Reached}
 use Rattle.carry.specs.Reaching.{withReached}
@@ -13,7 +16,11 @@ use Rattle.carry.proofs.Reached.over.Tie as tie
 thermal-requires : tie.Need-thermal-requires
 thermal-requires c κs =
     let start = c .before .before .before in
-    (start .pre .0 .accepted .sound, pair-facts (start .args .pair) (start .pre .1) .1)
+    let a = start .args in
+    let accepted = start .pre .0 .accepted in
+    let old-and-new : (temperatureRight (a .self .rod .temperature .0) ≡ true) × (temperatureRight (a .pair .temperature .0) ≡ true) =
+    (ranged (a .self .rod) (accepted .in-range) .temperature, pair-facts (a .pair) (start .pre .1) .1) in
+    (accepted .sound, search old-and-new)
 
 step-requires : tie.Need-step-requires
 step-requires c κs =

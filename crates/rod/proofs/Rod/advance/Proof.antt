@@ -35,13 +35,14 @@ plus-requires c κs =
     let s = branch-of c .before in
     omega (arith, ranged (s .args .self) (s .pre .0 .0 .in-range) .strain, pair-facts (s .args .pair) (s .pre .0 .1) .0)
 
--- the strain and the thermal strain
-few-nano : (c : tie.After-temperature) → natAbs (c .before .plus .result .0) + natAbs (start (c .before) .args .thermals .after .0) ≤ 1000000000
+-- the strain and the thermal strains
+few-nano : (c : tie.After-temperature) → let w = start (c .before) .args .thermals in
+    (natAbs (c .before .plus .result .0) ≤ 500000000) × (natAbs (w .before .0) ≤ 400000000) × (natAbs (w .after .0) ≤ 400000000)
 few-nano c =
     let plus = c .before in
     let s = start plus in
-    let thermal : natAbs (s .args .thermals .after .0) ≤ 400000000 = rw (s .pre .1 .0) (thermals-most (s .args .sheet) (s .args .self) (s .args .pair) (s .pre .0 .0) (s .pre .0 .1) .1) in
-    omega (arith, plus .plus .ensures .1, ranged (s .args .self) (s .pre .0 .0 .in-range) .strain, pair-facts (s .args .pair) (s .pre .0 .1) .0, thermal)
+    let thermals = thermals-most (s .args .sheet) (s .args .self) (s .args .pair) (s .pre .0 .0) (s .pre .0 .1) (s .pre .1 .0) in
+    (omega (arith, plus .plus .ensures .1, ranged (s .args .self) (s .pre .0 .0 .in-range) .strain, pair-facts (s .args .pair) (s .pre .0 .1) .0), thermals .0, thermals .1)
 
 minus-requires : tie.Need-minus-requires
 minus-requires c κs = omega (arith, few-nano c)

@@ -20,7 +20,7 @@ start c = c .before .before .before .before .before .before
 
 -- the thermal strains, and the change of mechanical strain
 thermals-few : (c : tie.Start) → (natAbs (c .args .thermals .before .0) ≤ 400000000) × (natAbs (c .args .thermals .after .0) ≤ 400000000)
-thermals-few c = rw (c .pre .1) (thermals-most (c .args .sheet) (c .args .self) (c .args .pair) (c .pre .0 .0) (c .pre .0 .1))
+thermals-few c = thermals-most (c .args .sheet) (c .args .self) (c .args .pair) (c .pre .0 .0) (c .pre .0 .1) (c .pre .1)
 
 minus-requires : tie.Need-minus-requires
 minus-requires c κs = omega (arith, thermals-few (c .before .before .before .before .before))
