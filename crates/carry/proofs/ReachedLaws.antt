@@ -14,7 +14,7 @@ use Rattle.response.specs.declared.Limits.{Limits}
 use Rattle.response.specs.Limits.{limitsOf, limitsAfter}
 use Rattle.response.proofs.LimitLaws.{limits-kept}
 use Rattle.rod.specs.declared.step.Advance.{Advance}
-use Rattle.rod.specs.Steps.{trialOf, thermalsOf, stepRefusals, advanceOf}
+use Rattle.rod.specs.Steps.{trialOf, thermalStrainsOf, stepRefusals, advanceOf}
 use Rattle.carry.specs.declared.Reached.{Reached}
 use Rattle.carry.specs.declared.Carried.{Carried}
 use Rattle.carry.specs.Walk.{pairAnswer}
@@ -25,7 +25,7 @@ pub limits-stand : {h : Sheet} {x : Reached} → Stands h x → x .limits ≡ li
 limits-stand s = ap (λ (y : Reached). y .limits) (s .reached)
 
 pub thermals-stand : {h : Sheet} {x : Reached} (p : Pair) {after : Nano} → Stands h x → after ≡ nano (thermalOf h (p .temperature .0))
-    → record { before = x .thermal; after = after } ≡ thermalsOf h (x .rod) p
+    → record { before = x .thermal; after = after } ≡ thermalStrainsOf h (x .rod) p
 thermals-stand p s is = λ i. record { before = s .reached i .thermal; after = is i }
 
 -- What kept-up limits and the thermal strain of the pair make of the rod after an accepted pair.

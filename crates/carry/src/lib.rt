@@ -4,7 +4,7 @@ use pair::PairRead;
 use response::Limits;
 use rod::Rod;
 use rod::step::Stepped;
-use rod::step::Thermals;
+use rod::step::ThermalStrains;
 use row::Row;
 use sheet::Sheet;
 use units::Nano;
@@ -63,7 +63,7 @@ impl Reached {
         let limits = self.limits;
         let before = self.thermal;
         let after = sheet::thermal(sheet, pair.temperature);
-        let thermals = Thermals { before, after };
+        let thermals = ThermalStrains { before, after };
         match rod.step(sheet, limits, thermals, pair) {
             Stepped::Advanced(advance) => {
                 let next = advance.rod;

@@ -17,7 +17,7 @@ use Rattle.sheet.specs.declared.Sheet.{Sheet}
 use Rattle.sheet.specs.Thermal.{thermalOf}
 use Rattle.response.specs.Response.{Outcome, outcomeOf}
 use Rattle.rod.specs.declared.Rod.{Rod}
-use Rattle.rod.specs.declared.step.Thermals.{Thermals}
+use Rattle.rod.specs.declared.step.ThermalStrains.{ThermalStrains}
 use Rattle.rod.specs.declared.step.Advance.{Advance}
 use Rattle.rod.specs.declared.step.Stepped.{Stepped}
 use Rattle.rod.specs.declared.step.Stepped.the-variants.{Advanced, StrainLeaves, BothFlow, OutOfRange}
@@ -34,8 +34,8 @@ trialOf h r p =
     r .stress .0 +ℤ pos (h .modulus .0) *ℤ (p .change .0 -ℤ (thermalOf h (p .temperature .0) -ℤ thermalOf h (r .temperature .0)))
 
 -- SPEC 5.1: the thermal strains before and after a pair.
-abbrev pub thermalsOf : Sheet → Rod → Pair → Thermals
-thermalsOf h r p = record { before = nano (thermalOf h (r .temperature .0)); after = nano (thermalOf h (p .temperature .0)) }
+abbrev pub thermalStrainsOf : Sheet → Rod → Pair → ThermalStrains
+thermalStrainsOf h r p = record { before = nano (thermalOf h (r .temperature .0)); after = nano (thermalOf h (p .temperature .0)) }
 
 -- SPEC 5.4: mechanical strain, which is strain less thermal strain.
 abbrev pub mechanicalOf : Sheet → (strain temperature : ℤ) → ℤ

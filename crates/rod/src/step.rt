@@ -19,11 +19,11 @@ ghost use Rattle.ranges.specs.Ranges.{mostCount, mostStress};
 ghost use Rattle.units.specs.Kinds.{grain};
 ghost use Rattle.response.specs.Response.{mostTrial, responseMeaning};
 ghost use Rattle.response.specs.Limits.{limitsOf};
-ghost use Rattle.rod.specs.Steps.{advanceBy, advanceOf, bothPassedBy, leavesRange, stepMeaning, stepRefusals, thermalsOf, trialOf};
+ghost use Rattle.rod.specs.Steps.{advanceBy, advanceOf, bothPassedBy, leavesRange, stepMeaning, stepRefusals, thermalStrainsOf, trialOf};
 ghost use Rattle.rod.specs.Accepted.{Accepted, PairAccepted};
 
 // The thermal strains before and after a pair (SPEC 5.1). Each is found once and goes along with the rod.
-pub struct Thermals {
+pub struct ThermalStrains {
     pub before: Nano,
     pub after: Nano,
 }
@@ -88,9 +88,9 @@ fn leaves_range(rod: Rod, response: Response) -> bool
 
 impl Rod {
     // The trial stress of a pair (SPEC 5.3).
-    fn trial(self, sheet: Sheet, pair: Pair, thermals: Thermals) -> Grain
+    fn trial(self, sheet: Sheet, pair: Pair, thermals: ThermalStrains) -> Grain
         requires { ⌜ Accepted sheet self × PairAccepted pair ⌝ }
-        requires thermals { ⌜ thermals ≡ thermalsOf sheet self pair ⌝ }
+        requires thermals { ⌜ thermals ≡ thermalStrainsOf sheet self pair ⌝ }
         ensures { λ r. ⌜ r ≡ grain (trialOf sheet self pair) ⌝ }
         ensures most { λ r. ⌜ natAbs (r .0) ≤ mostTrial ⌝ }
     {
@@ -104,9 +104,15 @@ impl Rod {
     }
 
     // The next state and the row, from the new strain and what the law left.
-    fn advance(self, sheet: Sheet, pair: Pair, thermals: Thermals, response: Response) -> Advance
+    fn advance(
+        self,
+        sheet: Sheet,
+        pair: Pair,
+        thermals: ThermalStrains,
+        response: Response,
+    ) -> Advance
         requires { ⌜ Accepted sheet self × PairAccepted pair ⌝ }
-        requires thermals { ⌜ thermals ≡ thermalsOf sheet self pair ⌝ }
+        requires thermals { ⌜ thermals ≡ thermalStrainsOf sheet self pair ⌝ }
         requires room { ⌜ (natAbs (response .stress .0) ≤ mostStress) × (self .pairs + 1 ≤ mostCount) ⌝ }
         ensures { λ r. ⌜ r ≡ advanceBy sheet self pair (responseMeaning response) ⌝ }
     {
@@ -149,10 +155,10 @@ impl Rod {
 
     // Carries the rod over one pair, or refuses it: 9, 11, 10 in that order. The limits are those at its variables, the thermal strains
     // those at its temperature and the pair's.
-    pub fn step(self, sheet: Sheet, limits: Limits, thermals: Thermals, pair: Pair) -> Stepped
+    pub fn step(self, sheet: Sheet, limits: Limits, thermals: ThermalStrains, pair: Pair) -> Stepped
         requires { ⌜ Accepted sheet self × PairAccepted pair ⌝ }
         requires limits { ⌜ limits ≡ limitsOf sheet (self .first .0) (self .second .0) ⌝ }
-        requires thermals { ⌜ thermals ≡ thermalsOf sheet self pair ⌝ }
+        requires thermals { ⌜ thermals ≡ thermalStrainsOf sheet self pair ⌝ }
         ensures { λ r. ⌜ stepMeaning r ≡ firstOf (stepRefusals sheet self pair) (advanceOf sheet self pair) ⌝ }
     {
         let strain = self.strain.plus(pair.change);

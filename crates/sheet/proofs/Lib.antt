@@ -3,3 +3,4 @@ pub mod AnswerCases
 pub mod Passed
 pub mod SideReadable
 pub mod ThermalLaws
+pub mod SheetCoefficients

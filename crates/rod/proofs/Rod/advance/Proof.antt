@@ -13,7 +13,7 @@ use Rattle.units.specs.declared.Nano.{Nano}
 use Rattle.bits.specs.Field.{flag}
 use Rattle.bits.proofs.SignLaws.{flag-below}
 use Rattle.pair.proofs.PairLaws.{pair-facts}
-use Rattle.rod.specs.declared.step.Thermals.{Thermals}
+use Rattle.rod.specs.declared.step.ThermalStrains.{ThermalStrains}
 use Rattle.rod.specs.Steps.{plasticOf, strainAfter}
 use Rattle.rod.proofs.RangeFacts.{ranged}
 use Rattle.rod.proofs.ThermalFacts.{thermals-most}
@@ -83,7 +83,7 @@ plastic-is c =
     let s = a .response .stress .0 in
     c .minus2 .ensures .0 ∙ ap (λ (g : Grain). grain (g .0 -ℤ s)) (times .times .ensures .0)
     ∙ ap (λ (n : Nano). grain (e *ℤ n .0 -ℤ s)) (mechanical .minus .ensures .0)
-    ∙ ap₂ (λ (m : Nano) (w : Thermals). grain (e *ℤ (m .0 -ℤ w .after .0) -ℤ s)) (plus .plus .ensures .0) (start plus .pre .1 .0)
+    ∙ ap₂ (λ (m : Nano) (w : ThermalStrains). grain (e *ℤ (m .0 -ℤ w .after .0) -ℤ s)) (plus .plus .ensures .0) (start plus .pre .1 .0)
 
 returns : tie.Need-returns
 returns c =

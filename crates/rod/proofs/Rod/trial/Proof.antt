@@ -7,7 +7,7 @@ use Rattle.units.specs.Kinds.{grain}
 use Rattle.units.specs.declared.Grain.{Grain}
 use Rattle.units.specs.declared.Nano.{Nano}
 use Rattle.pair.proofs.PairLaws.{pair-facts}
-use Rattle.rod.specs.declared.step.Thermals.{Thermals}
+use Rattle.rod.specs.declared.step.ThermalStrains.{ThermalStrains}
 use Rattle.rod.specs.Steps.{trialOf}
 use Rattle.rod.proofs.RangeFacts.{ranged}
 use Rattle.rod.proofs.ThermalFacts.{thermals-most}
@@ -68,7 +68,7 @@ returns c =
       c .plus .ensures .0 ∙ ap (λ (g : Grain). grain (s +ℤ g .0)) (times .times .ensures .0)
           ∙ ap (λ (n : Nano). grain (s +ℤ e *ℤ n .0)) (mechanical .minus2 .ensures .0)
           ∙ ap (λ (n : Nano). grain (s +ℤ e *ℤ (a .pair .change .0 -ℤ n .0))) (thermal .minus .ensures .0)
-          ∙ ap (λ (w : Thermals). grain (s +ℤ e *ℤ (a .pair .change .0 -ℤ (w .after .0 -ℤ w .before .0)))) (start thermal .pre .1),
+          ∙ ap (λ (w : ThermalStrains). grain (s +ℤ e *ℤ (a .pair .change .0 -ℤ (w .after .0 -ℤ w .before .0)))) (start thermal .pre .1),
       omega (arith, c .plus .ensures .1, stresses times),
     )
 
