@@ -154,6 +154,18 @@ static void store(uint8_t *card, const uint8_t *next, uint64_t answer)
     print_card(card);
 }
 
+/* Makes an unused rod on the card; whether there is one now. */
+static int unused(const char *name, const uint8_t *sheet, size_t sheet_len, uint8_t *card)
+{
+    uint64_t answer = tie_rod_unused(sheet, sheet_len, card);
+    printf("%s\n", name);
+    print_refusal(answer);
+    if (tie_rod_number(answer) != TIE_ROD_ACCEPTED)
+        return 0;
+    print_card(card);
+    return 1;
+}
+
 /* Carries the rod on the card over a heat. */
 static void heat(const char *name, const uint8_t *sheet, size_t sheet_len, uint8_t *card,
                  const int32_t (*pairs)[2], size_t count)
@@ -183,7 +195,30 @@ static void print_left(uint64_t answer, const uint8_t *next)
            tie_rod_place(answer));
 }
 
-int main(void)
+/* Carries the rod on the card over a single pair. */
+static void single_pair(const char *name, const uint8_t *sheet, size_t sheet_len, uint8_t *card,
+                        int32_t strain_change, int16_t temperature)
+{
+    uint8_t pair[TIE_ROD_PAIR_BYTES];
+    uint8_t row[TIE_ROD_ROW_BYTES];
+    uint8_t next[TIE_ROD_STATE_BYTES];
+    write_pair(pair, strain_change, temperature);
+    memset(next, 0xee, sizeof next);
+
+    uint64_t answer = tie_rod_pair(sheet, sheet_len, card, TIE_ROD_STATE_BYTES, pair, sizeof pair,
+                                   row, sizeof row, next, sizeof next);
+    printf("%s\n", name);
+    print_rows(row, tie_rod_rows(answer, sizeof pair));
+    print_refusal(answer);
+    if (!tie_rod_has_next(answer))
+        print_left(answer, next);
+    store(card, next, answer);
+}
+
+/* ---- the rods ---- */
+
+/* A rod with one expansion for all temperatures, over two heats; 0 if there is no such rod. */
+static int two_heats(void)
 {
     /* Strain change in nano, new temperature in tenths of a degree. */
     static const int32_t first_heat[][2] = {
@@ -192,6 +227,31 @@ int main(void)
     static const int32_t second_heat[][2] = {
         {900000, 200}, {600000, 200}, {150000000, 200}, {0, 200},
     };
+    uint8_t sheet[TIE_ROD_SHEET_BYTES_MAX];
+    uint8_t other[TIE_ROD_SHEET_BYTES_MAX];
+    uint8_t card[TIE_ROD_STATE_BYTES];
+    size_t sheet_len = write_sheet(sheet, 0, NULL, 0);
+    size_t other_len = write_sheet(other, 2, NULL, 0);
+
+    if (!unused("an unused rod", sheet, sheet_len, card))
+        return 0;
+    heat("first heat", sheet, sheet_len, card, first_heat, sizeof first_heat / sizeof first_heat[0]);
+    heat("second heat, by mistake with another rod's sheet", other, other_len, card, second_heat,
+         sizeof second_heat / sizeof second_heat[0]);
+    heat("second heat, with a gauge that slips at its third pair", sheet, sheet_len, card, second_heat,
+         sizeof second_heat / sizeof second_heat[0]);
+    single_pair("a single pair", sheet, sheet_len, card, 200000, 200);
+
+    uint64_t answer = tie_rod_forecast(sheet, sheet_len, card, sizeof card);
+    printf("a forecast\n");
+    print_refusal(answer);
+    printf("  tangent %" PRIu32 " MPa\n", tie_rod_tangent(answer));
+    return 1;
+}
+
+/* A rod of a dryer's hot end, whose expansion grows with heat; 0 if there is no such rod. */
+static int dryer(void)
+{
     static const int32_t dryer_heat[][2] = {
         {2150000, 2000}, {1250000, 3001}, {4470000, 5999}, {1800000, 8000}, {400000, 8000}, {-9900000, 200},
     };
@@ -205,58 +265,24 @@ int main(void)
     uint8_t sheet[TIE_ROD_SHEET_BYTES_MAX];
     uint8_t other[TIE_ROD_SHEET_BYTES_MAX];
     uint8_t card[TIE_ROD_STATE_BYTES];
-    size_t sheet_len = write_sheet(sheet, 0, NULL, 0);
-    size_t other_len = write_sheet(other, 2, NULL, 0);
-
-    uint64_t answer = tie_rod_unused(sheet, sheet_len, card);
-    printf("an unused rod\n");
-    print_refusal(answer);
-    if (tie_rod_number(answer) != TIE_ROD_ACCEPTED)
-        return 1;
-    print_card(card);
-
-    heat("first heat", sheet, sheet_len, card, first_heat, sizeof first_heat / sizeof first_heat[0]);
-    heat("second heat, by mistake with another rod's sheet", other, other_len, card, second_heat,
-         sizeof second_heat / sizeof second_heat[0]);
-    heat("second heat, with a gauge that slips at its third pair", sheet, sheet_len, card, second_heat,
-         sizeof second_heat / sizeof second_heat[0]);
-
-    uint8_t pair[TIE_ROD_PAIR_BYTES];
-    uint8_t row[TIE_ROD_ROW_BYTES];
     uint8_t next[TIE_ROD_STATE_BYTES];
-    write_pair(pair, 200000, 200);
-    answer = tie_rod_pair(sheet, sheet_len, card, sizeof card, pair, sizeof pair, row, sizeof row, next, sizeof next);
-    printf("a single pair\n");
-    print_rows(row, tie_rod_rows(answer, sizeof pair));
-    print_refusal(answer);
-    store(card, next, answer);
+    size_t sheet_len = write_sheet(sheet, 0, hot_end, POINTS_OF_A_SHEET);
+    size_t other_len = write_sheet(other, 0, exchanged, POINTS_OF_A_SHEET);
 
-    answer = tie_rod_forecast(sheet, sheet_len, card, sizeof card);
-    printf("a forecast\n");
-    print_refusal(answer);
-    printf("  tangent %" PRIu32 " MPa\n", tie_rod_tangent(answer));
-
-    sheet_len = write_sheet(sheet, 0, hot_end, POINTS_OF_A_SHEET);
-    other_len = write_sheet(other, 0, exchanged, POINTS_OF_A_SHEET);
-    answer = tie_rod_unused(sheet, sheet_len, card);
-    printf("an unused rod for a dryer's hot end, its expansion given by points\n");
-    print_refusal(answer);
-    if (tie_rod_number(answer) != TIE_ROD_ACCEPTED)
-        return 1;
-    print_card(card);
+    if (!unused("an unused rod for a dryer's hot end, its expansion given by points", sheet, sheet_len, card))
+        return 0;
     heat("a heat from 20 to 800 degrees and back", sheet, sheet_len, card, dryer_heat,
          sizeof dryer_heat / sizeof dryer_heat[0]);
 
-    answer = tie_rod_unused(other, other_len, next);
+    uint64_t answer = tie_rod_unused(other, other_len, next);
     printf("another rod, with a sheet whose points don't rise\n");
     print_refusal(answer);
     print_left(answer, next);
-    write_pair(pair, 0, 200);
-    memset(next, 0xee, sizeof next);
-    answer = tie_rod_pair(other, other_len, card, sizeof card, pair, sizeof pair, row, sizeof row, next, sizeof next);
-    printf("a single pair with that sheet\n");
-    print_refusal(answer);
-    print_left(answer, next);
-    store(card, next, answer);
-    return 0;
+    single_pair("a single pair with that sheet", other, other_len, card, 0, 200);
+    return 1;
+}
+
+int main(void)
+{
+    return two_heats() && dryer() ? 0 : 1;
 }

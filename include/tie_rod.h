@@ -40,16 +40,17 @@
  *   length        28   1 to 100,000,000 nano; 0 for the last of its side
  *   tangent       20   below E; along a side it never rises
  *   then each point:
- *   temperature   16 s -2,000 to 20,000; each above that of the point before
+ *   temperature   16 s -2,000 to 20,000
  *   zero           2   0
  *   coefficient   14   0 to 10,000, in 10^-8 per kelvin
  *
  * Thermal strain (SPEC 5.1) is the coefficient at the temperature times
  * (temperature - reference): a secant coefficient, counted from the reference.
  *   No points: the coefficient is the expansion field, at every temperature.
- *   Else it is that of the first point up to it, that of the last one from it on,
- *   and in between what the straight line through the two neighbours has there,
- *   rounded down, whether the line rises or falls.
+ *   Else (SPEC 5.7) it is up to the first point that point's, from the last one
+ *   on that one's, and in between what the straight line through the two
+ *   neighbours has there, rounded down, whether the line rises or falls. The
+ *   points stand in the order of their temperatures, the coldest first.
  *
  * State (SPEC 3.11): 37 bytes.
  *   law            2   the sheet's
@@ -110,7 +111,8 @@ enum tie_rod_numbers {
     TIE_ROD_SHEET_FIELD = 2,   /* a field isn't in its range, a zero field isn't 0, or
                                   expansion isn't 0 though there are points */
     TIE_ROD_SHEET_TANGENT = 3, /* a tangent not below E, or above the one before it on its side */
-    TIE_ROD_SHEET_POINTS = 13, /* a point isn't warmer than the one before it */
+    TIE_ROD_SHEET_POINTS = 13, /* the temperature of a point isn't above that of the one
+                                  before it */
 
     /* For whoever keeps the state. */
     TIE_ROD_STATE_LENGTH = 4, /* not 37 bytes */

@@ -438,7 +438,7 @@ pub fn damage(random: &mut Random, call: &mut Call) {
     let points = layout::read(&layout::SHEET, &call.sheet)[9];
     match random.below(14) {
         12 if points >= 1 => {
-            let at = points_at(&call.sheet) + POINT_BYTES * random.below(points as u64) as usize;
+            let at = point_at(&call.sheet, random.below(points as u64) as i64);
             set_field(random, &layout::POINT, &POINT_ENDS, &mut call.sheet, at);
         }
         13 if points >= 2 => {
@@ -451,49 +451,68 @@ pub fn damage(random: &mut Random, call: &mut Call) {
                 mend_length(&mut call.sheet);
             }
         }
-        3 => {
-            let count = (points_at(&call.sheet) - SHEET_BYTES) / SEGMENT_BYTES;
-            let at = SHEET_BYTES + SEGMENT_BYTES * random.below(count as u64) as usize;
-            let e = layout::read(&layout::SHEET, &call.sheet)[3];
-            if random.chance(50) {
-                let [length, tangent] = layout::read(&layout::SEGMENT, &call.sheet[at..]);
-                let tangent = random.pick(&[e - 1, e, e + 1, tangent + 1, tangent - 1, 0]);
-                put(&mut call.sheet, at, layout::write(&layout::SEGMENT, [length, tangent]));
-            } else {
-                set_field(random, &layout::SEGMENT, &SEGMENT_ENDS, &mut call.sheet, at);
-            }
-        }
+        3 => damage_segment(random, &mut call.sheet),
         4..=6 => set_field(random, &layout::STATE, &STATE_ENDS, &mut call.state, 0),
         7 => near_the_sheet(random, call),
         8 if !call.pairs.is_empty() => {
             let at = PAIR_BYTES * random.below((call.pairs.len() / PAIR_BYTES) as u64) as usize;
             set_field(random, &layout::PAIR, &PAIR_ENDS, &mut call.pairs, at);
         }
-        9 | 10 => {
-            let target = random.below(3);
-            let bytes = [&mut call.sheet, &mut call.state, &mut call.pairs][target as usize].as_mut_slice();
-            if !bytes.is_empty() {
-                let at = random.below(bytes.len() as u64) as usize;
-                bytes[at] ^= if random.chance(70) { 1 << random.below(8) } else { random.draw() as u8 };
-            }
-        }
-        _ => {
-            let target = random.below(3);
-            let bytes = [&mut call.sheet, &mut call.state, &mut call.pairs];
-            let bytes = bytes.into_iter().nth(target as usize).unwrap();
-            let length = match random.below(3) {
-                0 => random.below(bytes.len() as u64 + 1) as usize,
-                1 => bytes.len() + random.pick(&[1, 6, 3, 4]),
-                _ => bytes.len().saturating_sub(random.pick(&[1, 6, 3, 4])),
-            };
-            bytes.resize(length, random.draw() as u8);
-        }
+        9 | 10 => damage_byte(random, call),
+        _ => damage_length(random, call),
     }
+}
+
+/// A segment's field at an end of its range, or its tangent near E or near what it was.
+fn damage_segment(random: &mut Random, sheet: &mut [u8]) {
+    let count = (points_at(sheet) - SHEET_BYTES) / SEGMENT_BYTES;
+    let at = SHEET_BYTES + SEGMENT_BYTES * random.below(count as u64) as usize;
+    let e = layout::read(&layout::SHEET, sheet)[3];
+    if random.chance(50) {
+        let [length, tangent] = layout::read(&layout::SEGMENT, &sheet[at..]);
+        let tangent = random.pick(&[e - 1, e, e + 1, tangent + 1, tangent - 1, 0]);
+        put(sheet, at, layout::write(&layout::SEGMENT, [length, tangent]));
+    } else {
+        set_field(random, &layout::SEGMENT, &SEGMENT_ENDS, sheet, at);
+    }
+}
+
+/// Sheet, state or list.
+fn any_buffer<'a>(random: &mut Random, call: &'a mut Call) -> &'a mut Vec<u8> {
+    match random.below(3) {
+        0 => &mut call.sheet,
+        1 => &mut call.state,
+        _ => &mut call.pairs,
+    }
+}
+
+/// A bit or a whole byte.
+fn damage_byte(random: &mut Random, call: &mut Call) {
+    let bytes = any_buffer(random, call);
+    if !bytes.is_empty() {
+        let at = random.below(bytes.len() as u64) as usize;
+        bytes[at] ^= if random.chance(70) { 1 << random.below(8) } else { random.draw() as u8 };
+    }
+}
+
+fn damage_length(random: &mut Random, call: &mut Call) {
+    let bytes = any_buffer(random, call);
+    let length = match random.below(3) {
+        0 => random.below(bytes.len() as u64 + 1) as usize,
+        1 => bytes.len() + random.pick(&[1, 6, 3, 4]),
+        _ => bytes.len().saturating_sub(random.pick(&[1, 6, 3, 4])),
+    };
+    bytes.resize(length, random.draw() as u8);
 }
 
 /// Where the points of a sheet begin, by its counts.
 pub fn points_at(sheet: &[u8]) -> usize {
     layout::sheet_length(sheet) - POINT_BYTES * layout::read(&layout::SHEET, sheet)[9] as usize
+}
+
+/// Where a point begins, by the sheet's counts and its place from 0.
+fn point_at(sheet: &[u8], place: i64) -> usize {
+    points_at(sheet) + POINT_BYTES * place as usize
 }
 
 /// Gives a sheet the length that its counts ask for.
@@ -541,71 +560,41 @@ pub const POINT_DAMAGES: [PointDamage; 13] = [
     PointDamage::EqualAndLength,
 ];
 
+/// Those that put a field out of its range and leave the temperatures as they are.
+const FIELD_DAMAGES: [PointDamage; 4] =
+    [PointDamage::Coefficient, PointDamage::PointZeroBits, PointDamage::SingleNumber, PointDamage::HeaderZeroBits];
+
 /// Damages a sheet that passes and has two points or more.
 pub fn damage_points(random: &mut Random, sheet: &mut Vec<u8>, way: PointDamage) {
     let [.., e, _, _, _, _, _, count] = layout::read(&layout::SHEET, sheet);
-    let start = points_at(sheet);
-    let place = |i: i64| start + POINT_BYTES * i as usize;
     // mostly the first or the last point
     let any = random.range(0, count - 1);
-    let at = place(random.pick(&[0, count - 1, any]));
+    let at = point_at(sheet, random.pick(&[0, count - 1, any]));
     // the second of two neighbours, mostly of the first two or the last two
     let any = random.range(1, count - 1);
     let second = random.pick(&[1, count - 1, any]);
-    let temperature_at = |sheet: &[u8], i: i64| layout::read(&layout::POINT, &sheet[place(i)..])[0];
     match way {
-        PointDamage::Length => {
-            let fewer = sheet.len() - POINT_BYTES;
-            let length = random.pick(&[start, fewer, fewer + 1, fewer + 2, fewer + 3, fewer + 5, fewer + 8]);
-            sheet.resize(length, 0);
-        }
-        PointDamage::Count => {
-            let other = (count + random.range(1, 15)) % 16;
-            with_field(&layout::SHEET, sheet, 0, 9, other);
-        }
-        PointDamage::NinePoints => {
-            let count = random.range(9, 15);
-            with_field(&layout::SHEET, sheet, 0, 9, count);
-            sheet.truncate(start);
-            let step = random.pick(&[100, 100, 0, -100]);
-            for i in 0..count {
-                sheet.extend(layout::write(&layout::POINT, [step * i, 0, 1_200]));
-            }
-        }
+        PointDamage::Length => other_points_length(random, sheet),
+        PointDamage::Count => with_field(&layout::SHEET, sheet, 0, 9, (count + random.range(1, 15)) % 16),
+        PointDamage::NinePoints => nine_points(random, sheet),
         PointDamage::SingleNumber => {
-            let single = random.pick(&[1, 1_200, 10_000, 10_001, FULL]);
-            with_field(&layout::SHEET, sheet, 0, 4, single);
+            with_field(&layout::SHEET, sheet, 0, 4, random.pick(&[1, 1_200, 10_000, 10_001, FULL]))
         }
         PointDamage::HeaderZeroBits => with_field(&layout::SHEET, sheet, 0, 8, random.range(1, 3)),
         PointDamage::Temperature => {
-            let outside = random.pick(&[-32_768, COLDEST - 1, WARMEST + 1, 32_767]);
-            with_field(&layout::POINT, sheet, at, 0, outside);
+            with_field(&layout::POINT, sheet, at, 0, random.pick(&[-32_768, COLDEST - 1, WARMEST + 1, 32_767]))
         }
         PointDamage::Coefficient => with_field(&layout::POINT, sheet, at, 2, random.pick(&[10_001, FULL])),
         PointDamage::PointZeroBits => with_field(&layout::POINT, sheet, at, 1, random.range(1, 3)),
-        PointDamage::Equal => {
-            let equal = temperature_at(sheet, second - 1);
-            with_field(&layout::POINT, sheet, place(second), 0, equal);
-        }
-        PointDamage::Falling => {
-            // the two exchanged, or the first of them a tenth above the second
-            let (before, after) = (temperature_at(sheet, second - 1), temperature_at(sheet, second));
-            let (before, after) = if random.chance(50) { (after, before) } else { (after, after - 1) };
-            with_field(&layout::POINT, sheet, place(second - 1), 0, before);
-            with_field(&layout::POINT, sheet, place(second), 0, after);
-        }
+        PointDamage::Equal => equal_temperatures(sheet, second),
+        PointDamage::Falling => falling_temperatures(random, sheet, second),
         PointDamage::FallingAndTangent => {
             damage_points(random, sheet, PointDamage::Falling);
             with_field(&layout::SEGMENT, sheet, SHEET_BYTES, 1, random.pick(&[e, e + 1, FULL]));
         }
         PointDamage::FallingAndField => {
             damage_points(random, sheet, PointDamage::Falling);
-            let field = random.pick(&[
-                PointDamage::Coefficient,
-                PointDamage::PointZeroBits,
-                PointDamage::SingleNumber,
-                PointDamage::HeaderZeroBits,
-            ]);
+            let field = random.pick(&FIELD_DAMAGES);
             damage_points(random, sheet, field);
         }
         PointDamage::EqualAndLength => {
@@ -613,6 +602,46 @@ pub fn damage_points(random: &mut Random, sheet: &mut Vec<u8>, way: PointDamage)
             damage_points(random, sheet, PointDamage::Length);
         }
     }
+}
+
+/// The length without the points, or with one too few or too many, or ending within one.
+fn other_points_length(random: &mut Random, sheet: &mut Vec<u8>) {
+    let fewer = sheet.len() - POINT_BYTES;
+    let lengths = [points_at(sheet), fewer, fewer + 1, fewer + 2, fewer + 3, fewer + 5, fewer + 8];
+    sheet.resize(random.pick(&lengths), 0);
+}
+
+/// Nine to fifteen points in the place of the sheet's own.
+fn nine_points(random: &mut Random, sheet: &mut Vec<u8>) {
+    let count = random.range(9, 15);
+    sheet.truncate(points_at(sheet));
+    with_field(&layout::SHEET, sheet, 0, 9, count);
+    let step = random.pick(&[100, 100, 0, -100]);
+    for i in 0..count {
+        sheet.extend(layout::write(&layout::POINT, [step * i, 0, 1_200]));
+    }
+}
+
+fn point_temperature(sheet: &[u8], place: i64) -> i64 {
+    layout::read(&layout::POINT, &sheet[point_at(sheet, place)..])[0]
+}
+
+fn set_point_temperature(sheet: &mut [u8], place: i64, temperature: i64) {
+    let at = point_at(sheet, place);
+    with_field(&layout::POINT, sheet, at, 0, temperature);
+}
+
+/// A point gets the temperature of the one before it.
+fn equal_temperatures(sheet: &mut [u8], second: i64) {
+    let before = point_temperature(sheet, second - 1);
+    set_point_temperature(sheet, second, before);
+}
+
+/// Two neighbours are exchanged, or come a tenth apart, the warmer first.
+fn falling_temperatures(random: &mut Random, sheet: &mut [u8], second: i64) {
+    let (before, after) = (point_temperature(sheet, second - 1), point_temperature(sheet, second));
+    set_point_temperature(sheet, second - 1, after);
+    set_point_temperature(sheet, second, if random.chance(50) { before } else { after - 1 });
 }
 
 /// A state near what the sheet allows: its law, a yield, a limit, or the second variable.

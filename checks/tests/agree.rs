@@ -4,7 +4,7 @@
 use checks::call::{difference, shortest, Call, Entry};
 use checks::fraction::Fraction;
 use checks::generate::{self, PointDamage};
-use checks::layout::{self, PAIR_BYTES, POINT_BYTES, SEGMENT_BYTES, SHEET_BYTES, STATE_BYTES};
+use checks::layout::{self, Field, PAIR_BYTES, POINT_BYTES, SEGMENT_BYTES, SHEET_BYTES, STATE_BYTES};
 use checks::random::Random;
 use checks::rules::{self, Flow, Law};
 use checks::VERSIONS;
@@ -14,6 +14,8 @@ const DAMAGED: usize = 300_000;
 const RANDOM: usize = 100_000;
 const WRONG_LENGTHS: usize = 100_000;
 const _: () = assert!(VALID + DAMAGED + RANDOM + WRONG_LENGTHS >= 300_000);
+
+const ENTRIES: [Entry; 4] = [Entry::Run, Entry::Pair, Entry::Forecast, Entry::Unused];
 
 /// How often each number was answered, by entry.
 #[derive(Default)]
@@ -33,6 +35,14 @@ impl Tally {
             }
         }
         self.numbers[call.entry as usize][wanted.number() as usize] += 1;
+    }
+
+    /// The same by every entry; a single pair gets the first of the list.
+    fn compare_by_every_entry(&mut self, call: &Call) {
+        for entry in ENTRIES {
+            let pairs = if entry == Entry::Pair { &call.pairs[..PAIR_BYTES] } else { &call.pairs };
+            self.compare(&Call { entry, pairs: pairs.to_vec(), ..call.clone() });
+        }
     }
 
     fn of(&self, entry: Entry) -> &[usize; 14] {
@@ -94,7 +104,6 @@ fn damaged_calls() {
 #[test]
 fn damaged_points() {
     const ROUNDS: usize = 300;
-    const ENTRIES: [Entry; 4] = [Entry::Run, Entry::Pair, Entry::Forecast, Entry::Unused];
     let mut random = Random::new(110);
     let mut tally = Tally::default();
     for way in generate::POINT_DAMAGES {
@@ -105,36 +114,15 @@ fn damaged_points() {
             _ => 2,
         };
         for _ in 0..ROUNDS {
-            let mut sheet = generate::sheet_with_points(&mut random, 2);
-            let mut state = generate::unused_state(&sheet);
-            let mut pairs = generate::pairs(&mut random, &sheet, &state, 1, None);
-            generate::damage_points(&mut random, &mut sheet, way);
-            // What is wrong behind the sheet's numbers has no say.
-            match random.below(8) {
-                0 => state.truncate(36),
-                1 => state[0] ^= 0x01,
-                2 => pairs.push(0),
-                3 => pairs[0] |= 0xe0,
-                _ => {}
-            }
-            let mut call = generate::with_buffers(&mut random, Entry::Run, sheet, state, pairs);
+            let mut call = call_with_damaged_points(&mut random, way);
             for entry in ENTRIES {
-                if entry != Entry::Unused && random.chance(15) {
-                    call.rows.truncate(3);
-                    call.next = random.bytes(STATE_BYTES + 1);
-                } else {
-                    call.next = random.bytes(STATE_BYTES);
-                }
                 call.entry = entry;
-                let outcome = rules::call(&call);
-                assert_eq!(outcome.answer, number, "{way:?}\n{call}");
-                assert_eq!(outcome.rows, call.rows);
-                let left = match entry {
-                    Entry::Forecast => &call.next[..],
-                    _ if call.next.len() != STATE_BYTES => &call.next[..],
-                    _ => &[0; STATE_BYTES],
-                };
-                assert_eq!(outcome.next, left);
+                let other_lengths = entry != Entry::Unused && random.chance(15);
+                if other_lengths {
+                    call.rows.truncate(3);
+                }
+                call.next = random.bytes(STATE_BYTES + other_lengths as usize);
+                assert_sheet_refused(&call, number, way);
                 tally.compare(&call);
             }
         }
@@ -143,6 +131,33 @@ fn damaged_points() {
         tally.assert_seen(entry, &[1, 2, 3, 13], ROUNDS);
         assert_eq!(tally.of(entry)[13], 2 * ROUNDS);
     }
+}
+
+/// A sheet whose points are damaged, and sometimes a state or a list that is: what is wrong behind the sheet's numbers
+/// has no say.
+fn call_with_damaged_points(random: &mut Random, way: PointDamage) -> Call {
+    let mut sheet = generate::sheet_with_points(random, 2);
+    let mut state = generate::unused_state(&sheet);
+    let mut pairs = generate::pairs(random, &sheet, &state, 1, None);
+    generate::damage_points(random, &mut sheet, way);
+    match random.below(8) {
+        0 => state.truncate(36),
+        1 => state[0] ^= 0x01,
+        2 => pairs.push(0),
+        3 => pairs[0] |= 0xe0,
+        _ => {}
+    }
+    generate::with_buffers(random, Entry::Run, sheet, state, pairs)
+}
+
+/// By the rules the call gets this number with place 0, no row is written, and a state's place gets zeros.
+fn assert_sheet_refused(call: &Call, number: u64, way: PointDamage) {
+    let outcome = rules::call(call);
+    assert_eq!(outcome.answer, number, "{way:?}\n{call}");
+    assert_eq!(outcome.rows, call.rows);
+    let untouched = call.entry == Entry::Forecast || call.next.len() != STATE_BYTES;
+    let left = if untouched { &call.next[..] } else { &[0; STATE_BYTES] };
+    assert_eq!(outcome.next, left);
 }
 
 /// Sheets with each number of points, at every temperature on a point, beside it, half-way between two and beyond both
@@ -211,8 +226,8 @@ fn wrong_lengths() {
     tally.assert_seen(Entry::Pair, &[7, 12], 1_000);
 }
 
-/// Every field of sheet, segment, state and pair at each end of its range and
-/// beside it, on calls of every law that are accepted otherwise.
+/// Every field of sheet, segment, point, state and pair at each end of its
+/// range and beside it, on calls of every law that are accepted otherwise.
 #[test]
 fn ends_of_every_range() {
     let mut random = Random::new(104);
@@ -224,62 +239,71 @@ fn ends_of_every_range() {
         let pairs = generate::pairs(&mut random, &sheet, &state, 3, None);
         let call = generate::with_buffers(&mut random, Entry::Run, sheet, state, pairs);
         tally.compare(&call);
-
-        let mut each = |call: &Call| {
-            for entry in [Entry::Run, Entry::Pair, Entry::Forecast, Entry::Unused] {
-                let pairs = if entry == Entry::Pair { &call.pairs[..PAIR_BYTES] } else { &call.pairs };
-                tally.compare(&Call { entry, pairs: pairs.to_vec(), ..call.clone() });
-            }
-        };
-        for (field, ends) in generate::SHEET_ENDS.iter().enumerate() {
-            for &end in *ends {
-                let mut call = call.clone();
-                generate::with_field(&layout::SHEET, &mut call.sheet, 0, field, end);
-                each(&call);
-                // With its length mended the sheet passes 1, and the fields are seen.
-                generate::mend_length(&mut call.sheet);
-                each(&call);
-            }
+        for mut call in with_sheet_ends(&call) {
+            tally.compare_by_every_entry(&call);
+            // With its length mended the sheet passes 1, and the fields are seen.
+            generate::mend_length(&mut call.sheet);
+            tally.compare_by_every_entry(&call);
         }
-        let points_at = generate::points_at(&call.sheet);
-        for at in (SHEET_BYTES..points_at).step_by(SEGMENT_BYTES) {
-            let e = layout::read(&layout::SHEET, &call.sheet)[3];
-            for (field, ends) in generate::SEGMENT_ENDS.iter().enumerate() {
-                for &end in ends.iter().chain(&[e - 1, e, e + 1]) {
-                    let mut call = call.clone();
-                    generate::with_field(&layout::SEGMENT, &mut call.sheet, at, field, end);
-                    each(&call);
-                }
-            }
-        }
-        for at in (points_at..call.sheet.len()).step_by(POINT_BYTES) {
-            for (field, ends) in generate::POINT_ENDS.iter().enumerate() {
-                for &end in *ends {
-                    let mut call = call.clone();
-                    generate::with_field(&layout::POINT, &mut call.sheet, at, field, end);
-                    each(&call);
-                }
-            }
-        }
-        for (field, ends) in generate::STATE_ENDS.iter().enumerate() {
-            for &end in *ends {
-                let mut call = call.clone();
-                generate::with_field(&layout::STATE, &mut call.state, 0, field, end);
-                each(&call);
-            }
-        }
-        for at in (0..call.pairs.len()).step_by(PAIR_BYTES) {
-            for (field, ends) in generate::PAIR_ENDS.iter().enumerate() {
-                for &end in *ends {
-                    let mut call = call.clone();
-                    generate::with_field(&layout::PAIR, &mut call.pairs, at, field, end);
-                    each(&call);
-                }
-            }
+        let others = [with_segment_ends(&call), with_point_ends(&call), with_state_ends(&call), with_pair_ends(&call)];
+        for call in others.iter().flatten() {
+            tally.compare_by_every_entry(call);
         }
     }
     let each = [0, 1, 2, 3, 5, 6, 8, 9, 13];
     tally.assert_seen(Entry::Run, &each, 20);
+}
+
+type Buffer = fn(&mut Call) -> &mut Vec<u8>;
+
+/// The call with each field of a layout at each of its ends, in a buffer from byte `at` on.
+fn with_ends<const N: usize>(
+    call: &Call,
+    buffer: Buffer,
+    at: usize,
+    layout: &[Field; N],
+    ends: &[&[i64]; N],
+) -> Vec<Call> {
+    let mut calls = Vec::new();
+    for (field, ends) in ends.iter().enumerate() {
+        for &end in *ends {
+            let mut call = call.clone();
+            generate::with_field(layout, buffer(&mut call), at, field, end);
+            calls.push(call);
+        }
+    }
+    calls
+}
+
+fn with_sheet_ends(call: &Call) -> Vec<Call> {
+    with_ends(call, |call| &mut call.sheet, 0, &layout::SHEET, &generate::SHEET_ENDS)
+}
+
+/// The ends of a segment's fields, and both fields at E and beside it.
+fn with_segment_ends(call: &Call) -> Vec<Call> {
+    let e = layout::read(&layout::SHEET, &call.sheet)[3];
+    let near_e = [e - 1, e, e + 1];
+    let sheet: Buffer = |call| &mut call.sheet;
+    let each = |at| {
+        let mut calls = with_ends(call, sheet, at, &layout::SEGMENT, &generate::SEGMENT_ENDS);
+        calls.extend(with_ends(call, sheet, at, &layout::SEGMENT, &[&near_e; 2]));
+        calls
+    };
+    (SHEET_BYTES..generate::points_at(&call.sheet)).step_by(SEGMENT_BYTES).flat_map(each).collect()
+}
+
+fn with_point_ends(call: &Call) -> Vec<Call> {
+    let each = |at| with_ends(call, |call| &mut call.sheet, at, &layout::POINT, &generate::POINT_ENDS);
+    (generate::points_at(&call.sheet)..call.sheet.len()).step_by(POINT_BYTES).flat_map(each).collect()
+}
+
+fn with_state_ends(call: &Call) -> Vec<Call> {
+    with_ends(call, |call| &mut call.state, 0, &layout::STATE, &generate::STATE_ENDS)
+}
+
+fn with_pair_ends(call: &Call) -> Vec<Call> {
+    let each = |at| with_ends(call, |call| &mut call.pairs, at, &layout::PAIR, &generate::PAIR_ENDS);
+    (0..call.pairs.len()).step_by(PAIR_BYTES).flat_map(each).collect()
 }
 
 /// Runs of 4,096 pairs, and lists a byte or a pair longer.
@@ -450,19 +474,21 @@ impl Seen {
                     }
                     state = new;
                 }
-                Err(10) => {
-                    let beyond = |value: &Fraction, end: i64| value.abs() > Fraction::from(end);
-                    self.ranges[0] += beyond(&stored.stress, rules::STRESS) as usize;
-                    let first = if sheet.law == Law::Kinematic { rules::STRESS } else { rules::ABSCISSA };
-                    let which = if sheet.law == Law::Kinematic { 1 } else { 2 };
-                    self.ranges[which] += beyond(&stored.first, first) as usize;
-                    self.ranges[2] += beyond(&stored.second, rules::ABSCISSA) as usize;
-                    self.ranges[3] += (state.n == rules::COUNT) as usize;
-                    return;
-                }
+                Err(10) => return self.leave(&sheet, &state, &stored),
                 Err(_) => return,
             }
         }
+    }
+
+    /// 10: which of the ranges would be left.
+    fn leave(&mut self, sheet: &rules::Sheet, state: &rules::State, stored: &rules::Numbers) {
+        let beyond = |value: &Fraction, end: i64| value.abs() > Fraction::from(end);
+        self.ranges[0] += beyond(&stored.stress, rules::STRESS) as usize;
+        let first = if sheet.law == Law::Kinematic { rules::STRESS } else { rules::ABSCISSA };
+        let which = if sheet.law == Law::Kinematic { 1 } else { 2 };
+        self.ranges[which] += beyond(&stored.first, first) as usize;
+        self.ranges[2] += beyond(&stored.second, rules::ABSCISSA) as usize;
+        self.ranges[3] += (state.n == rules::COUNT) as usize;
     }
 
     fn meet(&mut self, sheet: &rules::Sheet, old: &rules::Numbers, trial: &Fraction, flow: Flow, new: &rules::Numbers) {

@@ -130,6 +130,30 @@ fn thermal(slip: Slip, sheet: &Sheet, temperature: i64) -> Fraction {
     strain.floor()
 }
 
+/// Thermal strain behind a pair, with a slip.
+fn thermal_behind(slip: Slip, sheet: &Sheet, state: &State, pair: &Pair) -> Fraction {
+    let tenths = |from: i64| Fraction::from(pair.temperature - from);
+    match slip {
+        Slip::ThermalStrainForgotten => thermal(slip, sheet, state.temperature),
+        Slip::CoefficientAtTheOldTemperature => &coefficient(slip, sheet, state.temperature) * &tenths(sheet.reference),
+        Slip::ChangeByTheNewCoefficient => {
+            let change = &coefficient(slip, sheet, pair.temperature) * &tenths(state.temperature);
+            &thermal(slip, sheet, state.temperature) + &change
+        }
+        _ => thermal(slip, sheet, pair.temperature),
+    }
+}
+
+/// Whether 10 doesn't apply.
+fn in_range(sheet: &Sheet, state: &State, stored: &Numbers) -> bool {
+    let within = |value: &Fraction, end: i64| value.abs() <= Fraction::from(end);
+    let variables = if sheet.law == Law::Kinematic { rules::STRESS } else { rules::ABSCISSA };
+    within(&stored.stress, rules::STRESS)
+        && within(&stored.first, variables)
+        && within(&stored.second, variables)
+        && state.n < rules::COUNT
+}
+
 /// One pair, computed with a slip; without one as the rules have it.
 fn step(slip: Slip, sheet: &Sheet, state: &State, pair: &Pair) -> Result<(State, Row), u64> {
     let strain = state.strain + pair.change;
@@ -139,29 +163,10 @@ fn step(slip: Slip, sheet: &Sheet, state: &State, pair: &Pair) -> Result<(State,
     }
     let old = state.numbers();
     let whole = |value: i64| Fraction::from(value);
-    let before = thermal(slip, sheet, state.temperature);
-    let after = match slip {
-        Slip::ThermalStrainForgotten => before.clone(),
-        Slip::CoefficientAtTheOldTemperature => {
-            &coefficient(slip, sheet, state.temperature) * &whole(pair.temperature - sheet.reference)
-        }
-        Slip::ChangeByTheNewCoefficient => {
-            let step = whole(pair.temperature - state.temperature);
-            &before + &(&coefficient(slip, sheet, pair.temperature) * &step)
-        }
-        _ => thermal(slip, sheet, pair.temperature),
-    };
-    let mechanical = &whole(pair.change) - &(&after - &before);
-    let trial = &old.stress + &(&whole(sheet.modulus) * &mechanical);
+    let thermal_change = &thermal_behind(slip, sheet, state, pair) - &thermal(slip, sheet, state.temperature);
+    let trial = &old.stress + &(&whole(sheet.modulus) * &(&whole(pair.change) - &thermal_change));
     let (stored, flow, tangent) = flowed(slip, sheet, &old, &trial, pair.change);
-
-    let in_range = |value: &Fraction, end: i64| value.abs() <= whole(end);
-    let variables = if sheet.law == Law::Kinematic { rules::STRESS } else { rules::ABSCISSA };
-    let passes = in_range(&stored.stress, rules::STRESS)
-        && in_range(&stored.first, variables)
-        && in_range(&stored.second, variables)
-        && state.n < rules::COUNT;
-    if !passes {
+    if !in_range(sheet, state, &stored) {
         return Err(10);
     }
     if leaves {
@@ -169,23 +174,13 @@ fn step(slip: Slip, sheet: &Sheet, state: &State, pair: &Pair) -> Result<(State,
     }
     let yielded = flow != Flow::None;
     let load = &whole(sheet.modulus) * &(&whole(strain) - &thermal(slip, sheet, pair.temperature));
-    let plastic = &load - &stored.stress;
     // An unrounded coefficient may leave a part of a grain.
     let cut = |value: &Fraction| value.floor().whole().unwrap();
     let stress = cut(&stored.stress);
-    let row = Row { yielded, tangent, stress, plastic: cut(&plastic) };
-    let state = State {
-        law: state.law,
-        yielded,
-        strain,
-        temperature: pair.temperature,
-        stress,
-        first: cut(&stored.first),
-        second: cut(&stored.second),
-        n: state.n + 1,
-        k: state.k + yielded as i64,
-    };
-    Ok((state, row))
+    let row = Row { yielded, tangent, stress, plastic: cut(&(&load - &stored.stress)) };
+    let (first, second) = (cut(&stored.first), cut(&stored.second));
+    let (temperature, n, k) = (pair.temperature, state.n + 1, state.k + yielded as i64);
+    Ok((State { law: state.law, yielded, strain, temperature, stress, first, second, n, k }, row))
 }
 
 /// The stored numbers, what flowed, and the tangent.
@@ -481,9 +476,10 @@ fn forgets_the_points_in_the_length(call: &Call) -> Outcome {
     outcome
 }
 
+/// The quick version, which has no slip and shares no code with the rules, isn't found.
 #[test]
 fn without_a_slip_the_damage_finds_nothing() {
-    assert!(!is_found_by_damage(rules::call));
+    assert!(!is_found_by_damage(checks::call::plain));
 }
 
 #[test]

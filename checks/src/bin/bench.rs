@@ -1,6 +1,7 @@
 //! The proved library through its C interface against the quick version in
 //! plain 64-bit Rust, on the same bytes: nanoseconds a pair, and the ratio
-//! plain / proved, above 1 where the proved one is faster.
+//! plain / proved, above 1 where the proved one is faster; and what points of
+//! the expansion cost, proved time with them / proved time without.
 
 use checks::generate::{self, sheet_bytes};
 use checks::layout;
@@ -87,9 +88,8 @@ fn measure(way: Way, versions: [Carry; 2], sheet: &[u8], pairs: &[u8]) -> [f64; 
     least
 }
 
-/// A text behind the program's name chooses the lines that hold it.
-fn main() {
-    let only = std::env::args().nth(1).unwrap_or_default();
+/// The steels to carry, each with a name.
+fn sheets() -> [(&'static str, Vec<u8>); 5] {
     let steel = |law, compressions, segments: &[[i64; 2]]| {
         let tensions = segments.len() as i64 - compressions;
         let compression_yield = if law == 3 { 250_000 } else { 0 };
@@ -97,35 +97,53 @@ fn main() {
         sheet_bytes(head, segments, &[])
     };
     let seven: Vec<[i64; 2]> = (0..7).map(|i| [if i < 6 { 40_000_000 } else { 0 }, 14_000 - 2_000 * i]).collect();
-    let sheets = [
+    [
         ("law 0", steel(0, 0, &[[0, 2_000]])),
         ("law 1, 1 segment", steel(1, 0, &[[0, 2_000]])),
         ("law 1, 7 segments", steel(1, 0, &seven)),
         ("law 2", steel(2, 0, &[[0, 2_000]])),
         ("law 3", steel(3, 1, &[[0, 2_000], [0, 2_000]])),
-    ];
+    ]
+}
+
+/// A text behind the program's name chooses the lines that hold it.
+fn main() {
+    let only = std::env::args().nth(1).unwrap_or_default();
     println!("{PAIRS} pairs, nanoseconds a pair, the least of {ROUNDS} rounds; ratio plain / proved");
     println!("buffers are allocated once and not cleared between calls");
     println!("8 points: the same steel, its expansion by points that the temperatures cross");
-    println!("{:50} {:>6} {:>8} {:>8} {:>6}", "", "flows", "proved", "plain", "ratio");
+    println!("points: proved time with them / proved time of the same line without");
+    println!("{:50} {:>6} {:>8} {:>8} {:>6} {:>6}", "", "flows", "proved", "plain", "ratio", "points");
     let ways: [(&str, Way, [Carry; 2]); 2] =
         [("whole run", whole, [library::run, plain::run]), ("single pairs", single, [library::pair, plain::pair])];
     for (way_name, way, versions) in ways {
-        for (sheet_name, sheet) in &sheets {
+        for (sheet_name, sheet) in &sheets() {
             let pointed = with_points(sheet.clone(), &POINTS);
             for (input, pairs) in [("cycles", cycles()), ("mixed", mixed(sheet))] {
-                for (points, sheet) in [("", sheet), ("8 points, ", &pointed)] {
-                    let label = format!("{way_name}, {sheet_name}, {points}{input}");
-                    if !label.contains(&only) {
-                        continue;
-                    }
-                    let [proved, quick] = measure(way, versions, sheet, &pairs);
-                    let flows = flows(sheet, &pairs);
-                    println!("{label:50} {flows:>4} % {proved:8.2} {quick:8.2} {:6.2}", quick / proved);
+                let label = |points: &str| format!("{way_name}, {sheet_name}, {points}{input}");
+                let (without, with) = (label(""), label("8 points, "));
+                let (print_without, print_with) = (without.contains(&only), with.contains(&only));
+                if !print_without && !print_with {
+                    continue;
+                }
+                // A line with points is held against the one without, printed or not.
+                let times = measure(way, versions, sheet, &pairs);
+                if print_without {
+                    print_line(&without, flows(sheet, &pairs), times, None);
+                }
+                if print_with {
+                    let pointed_times = measure(way, versions, &pointed, &pairs);
+                    print_line(&with, flows(&pointed, &pairs), pointed_times, Some(times[0]));
                 }
             }
         }
     }
+}
+
+/// The times of the two versions; where the sheet has points, with the proved time without them.
+fn print_line(label: &str, flows: i64, [proved, quick]: [f64; 2], without: Option<f64>) {
+    let points = without.map_or(String::new(), |without| format!(" {:6.2}", proved / without));
+    println!("{label:50} {flows:>4} % {proved:8.2} {quick:8.2} {:6.2}{points}", quick / proved);
 }
 
 /// Of a hundred pairs, how many flow.
