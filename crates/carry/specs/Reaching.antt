@@ -1,5 +1,5 @@
--- A rod with the yield limits and the thermal strain that it has reached, and what trying a pair on it answers (SPEC 7.12, 7.15), cited by the contracts of this
--- crate, judge and tie_rod; definitions only, nothing is assumed.
+-- A rod with the yield limits and the thermal strain that it has reached, and what trying a pair on it answers (SPEC 7.12, 7.15), cited by
+-- the contracts of this crate, judge and tie_rod; definitions only, nothing is assumed.
 use mathlib.Core.Path.{_≡_}
 use Rattle.refusals.specs.Table.{Answer, passes, refused}
 use Rattle.sheet.specs.declared.Sheet.{Sheet}

@@ -12,7 +12,7 @@ use Rattle.ranges.specs.Ranges.{mostExpansion}
 use Rattle.fractions.specs.Rounding.{floorF}
 use Rattle.expansion.specs.declared.Point.{Point}
 use Rattle.expansion.specs.declared.Coefficients.{Coefficients}
-use Rattle.expansion.specs.Points.{noPoint, pointsOf, pointRight, Usable}
+use Rattle.expansion.specs.Points.{noPlace, pointsOf, pointRight, Usable}
 use Rattle.expansion.specs.Coefficient.{line, behind, coefficientIn, coefficientOf}
 use Rattle.expansion.proofs.OrderTests.{below-is-at-most, below-of-not-at-most}
 use Rattle.expansion.proofs.PointRanges.{coefficient-most}
@@ -61,7 +61,7 @@ coefficient-in-range single (p ∷ rest) t most (right, all) = by-test (leZ t (p
     by-test false e =
         behind-in-range p rest t right (below-is-at-most (p .temperature .0) t (below-of-not-at-most (p .temperature .0) t e)) all
 
-all-right : (l : List Point) (n : ℕ) → ((i : ℕ) → i < n → pointRight (getD l i noPoint) ≡ true) → AllRight (take n l)
+all-right : (l : List Point) (n : ℕ) → ((i : ℕ) → i < n → pointRight (getD l i noPlace) ≡ true) → AllRight (take n l)
 all-right l zero right = tt
 all-right [] (suc n) right = tt
 all-right (p ∷ l) (suc n) right = (right 0 (omega arith), all-right l n (λ i h. right (suc i) (omega arith)))

@@ -1,4 +1,4 @@
--- The coefficient is what document 02 says of it (SPEC 5.3), and nothing else is: between two neighbours the line through them, rounded
+-- The coefficient is what document 02 says of it (SPEC 5.7, 5.8), and nothing else is: between two neighbours the line through them, rounded
 -- down, beyond the ends the end's own. At a point it is that point's own, and it lies between those of two neighbours. Assumes nothing.
 use Prim.Native.Nat.{ℕ, min, max}
 use mathlib.Core.Path.{_≡_, refl, sym, ap, _∙_}

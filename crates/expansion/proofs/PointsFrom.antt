@@ -7,27 +7,29 @@ use mathlib.Core.List.{[], _∷_}
 use native.Mathlib.Numerals.{add-one}
 use native.Mathlib.Decide.{decLt}
 use native.Mathlib.Omega.{arith}
-use lib.IntN.{ℤ, pos}
+use lib.IntN.{ℤ, pos, negℤ}
 use lib.ListN.{length, drop, getD, drop-of-length-le}
 use lib.Seq.{drop-cons, getD-take, length-take-le}
 use lib.Signed.{leZ, ltZ}
+use Rattle.refusals.proofs.FirstLaws.{both-hold}
+use Rattle.ranges.specs.Ranges.{temperatureRight}
 use Rattle.bits.proofs.SignLaws.{leZ-is-not-ltZ}
 use Rattle.fractions.specs.Rounding.{floorF}
 use Rattle.expansion.specs.declared.Point.{Point}
 use Rattle.expansion.specs.declared.Coefficients.{Coefficients}
-use Rattle.expansion.specs.Points.{pointsOf, noPoint, pointRight, risesFrom, temperaturesRise, Usable}
+use Rattle.expansion.specs.Points.{mostPoints, pointsOf, noPlace, pointRight, risesFrom, temperaturesRise, Usable}
 use Rattle.expansion.specs.Coefficient.{line, behind, coefficientIn, coefficientOf}
-use Rattle.expansion.proofs.OrderTests.{below-is-at-most}
+use Rattle.expansion.proofs.OrderTests.{order-of-test, below-is-at-most}
 
 -- Point i.
 abbrev pub pointAt : Coefficients → ℕ → Point
-pointAt c i = getD (c .points) i noPoint
+pointAt c i = getD (c .points) i noPlace
 
 -- Point i is reached: the point before it and those from it on settle whether the temperatures rise.
 abbrev pub RiseFrom : Coefficients → ℕ → Type 0
 RiseFrom c i = temperaturesRise (pointsOf c) ≡ risesFrom (pointAt c (i - 1)) (drop i (pointsOf c))
 
--- Point i is reached, or the end; `before` is the point before it, which the temperature has reached, and behind which the coefficient lies.
+-- Point i is reached, or the end; `before` is the point before it, which the temperature has reached; behind that the coefficient lies.
 pub record Reached (c : Coefficients) (t : ℤ) (before : Point) (i : ℕ) : Type 0 where
   pub some : 0 < i
   pub index : i ≤ c .count
@@ -39,7 +41,7 @@ module _ (c : Coefficients) (fits : c .count ≤ length (c .points)) where
   from-point : (i : ℕ) → i < c .count → drop i (pointsOf c) ≡ pointAt c i ∷ drop (suc i) (pointsOf c)
   from-point i h =
       let taken = length-take-le (c .count) (c .points) fits in
-      rw (drop-cons (pointsOf c) i noPoint (omega arith), getD-take (c .count) (c .points) i noPoint h)
+      rw (drop-cons (pointsOf c) i noPlace (omega arith), getD-take (c .count) (c .points) i noPlace h)
 
   past-points : (i : ℕ) → c .count ≤ i → drop i (pointsOf c) ≡ []
   past-points i h =
@@ -134,3 +136,14 @@ module _ (c : Coefficients) (fits : c .count ≤ length (c .points)) where
 
 pub right-before : {c : Coefficients} {t : ℤ} {before : Point} {i : ℕ} → Usable c → Reached c t before i → pointRight before ≡ true
 right-before {i} usable r = rw (r .is-point) (usable .points-right (i - 1) (omega (arith, r .some, r .index)))
+
+-- A place that a temperature in range has reached holds a point.
+pub holds-point : (c : Coefficients) (t : ℤ) (i : ℕ) → Usable c → temperatureRight t ≡ true → i < mostPoints → leZ (pointAt c i .temperature .0) t ≡ true → i < c .count
+holds-point c t i usable right place reached = by-place (decLt i (c .count))
+  where
+    by-place : Dec (i < c .count) → i < c .count
+    by-place (yes h) = h
+    by-place (no h) =
+        let most = both-hold (leZ (negℤ (pos 2000)) t) (leZ t (pos 20000)) right .1 in
+        let past : leZ (pos 20001) t ≡ true = sym (ap (λ (p : Point). leZ (p .temperature .0) t) (usable .empty-behind i (omega arith) place)) ∙ reached in
+        absurd (omega (arith, order-of-test t (pos 20000) most, order-of-test (pos 20001) t past))

@@ -17,9 +17,13 @@ use Rattle.expansion.specs.declared.Coefficients.{Coefficients}
 abbrev pub mostPoints : ℕ
 mostPoints = 8
 
--- SPEC 3.9: a place behind the last point.
+-- SPEC 3.9: a place behind the last point: its temperature is one that no temperature in range reaches.
 abbrev pub noPoint : Point
-noPoint = record { temperature = tenths (pos 0); coefficient = expansion 0 }
+noPoint = record { temperature = tenths (pos 20001); coefficient = expansion 0 }
+
+-- What `getD` answers behind the array, which nothing asks.
+abbrev pub noPlace : Point
+noPlace = record { temperature = tenths (pos 0); coefficient = expansion 0 }
 
 -- SPEC 3.9: the points: the first `count` of the places.
 abbrev pub pointsOf : Coefficients → List Point
@@ -39,10 +43,11 @@ unfoldable pub temperaturesRise : List Point → Bool
 temperaturesRise [] = true
 temperaturesRise (p ∷ rest) = risesFrom p rest
 
--- SPEC 3.10: what reading the coefficients in 64 bits asks of them.
+-- SPEC 3.10: what a sheet that passes has, and a coefficient is found by.
 pub record Usable (c : Coefficients) : Type 0 where
   pub count-fits : c .count ≤ mostPoints
   pub places : length (c .points) ≡ mostPoints
   pub single-most : c .single .0 ≤ mostExpansion
-  pub points-right : (i : ℕ) → i < c .count → pointRight (getD (c .points) i noPoint) ≡ true
+  pub points-right : (i : ℕ) → i < c .count → pointRight (getD (c .points) i noPlace) ≡ true
+  pub empty-behind : (i : ℕ) → c .count ≤ i → i < mostPoints → getD (c .points) i noPlace ≡ noPoint
   pub rising : temperaturesRise (pointsOf c) ≡ true

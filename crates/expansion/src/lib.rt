@@ -1,4 +1,4 @@
-// How much a rod expands with heat (SPEC 5.1 to 5.3): one coefficient, or points with a straight line from each to the next.
+// How much a rod expands with heat (SPEC 5.7): one coefficient, or points with a straight line from each to the next.
 use units::Expansion;
 use units::Tenths;
 ghost use mathlib.Core.Path.{_≡_};
@@ -7,7 +7,7 @@ ghost use Prim.Native.Nat.{_+_, _*_, _^_, _≤_, _<_};
 ghost use lib.IntN.{pos};
 ghost use lib.Signed.{leZ, ltZ};
 ghost use Rattle.fractions.specs.Rounding.{floorF};
-ghost use Rattle.ranges.specs.Ranges.{mostExpansion};
+ghost use Rattle.ranges.specs.Ranges.{temperatureRight, mostExpansion};
 ghost use Rattle.expansion.specs.Points.{mostPoints, pointsOf, pointRight, temperaturesRise, Usable};
 ghost use Rattle.expansion.specs.Coefficient.{line, coefficientOf};
 
@@ -19,6 +19,9 @@ pub struct Point {
 
 // The most points of a sheet (SPEC 3.7, 3.9).
 pub const MOST_POINTS: usize = 8;
+
+// The temperature of a place behind the last point (SPEC 3.9): no temperature in range reaches it.
+pub const NEVER_REACHED: i64 = ranges::MOST_TEMPERATURE + 1;
 
 // What a sheet says of expansion (SPEC 3.9): `count` points, or where there is none the single number.
 pub struct Coefficients {
@@ -71,28 +74,29 @@ impl Coefficients {
         true
     }
 
-    // The coefficient at a temperature: beyond the ends the end's, else on the line between the two points around it. The loop's bound is
-    // a fixed one, so that the compiler writes its turns out, each with its own place, and needn't copy the array to walk it.
+    // The coefficient at a temperature: beyond the ends the end's, else on the line between the two points around it. The walk stops before
+    // the first empty place, which no temperature reaches. Its bound is fixed, so that the compiler writes its turns out, each with its own
+    // place, and needn't copy the array.
     pub fn at(self, temperature: Tenths) -> Expansion
-        requires { ⌜ Usable self ⌝ }
+        requires { ⌜ Usable self × (temperatureRight (temperature .0) ≡ true) ⌝ }
         ensures { λ r. ⌜ pos (r .0) ≡ coefficientOf self (temperature .0) ⌝ }
         ensures most { λ r. ⌜ r .0 ≤ mostExpansion ⌝ }
     {
-        if self.count == 0 {
-            return self.single;
-        }
         let mut before = self.points[0];
         if !before.temperature.below(temperature) {
+            if self.count == 0 {
+                return self.single;
+            }
             return before.coefficient;
         }
         let mut next = 1;
         while next < MOST_POINTS {
-            if next == self.count {
-                return before.coefficient;
-            }
             let after = self.points[next];
             if temperature.below(after.temperature) {
-                return before.toward(after, temperature);
+                if next < self.count {
+                    return before.toward(after, temperature);
+                }
+                return before.coefficient;
             }
             before = after;
             next += 1;

@@ -8,15 +8,15 @@ use native.Mathlib.Decide.{decLt}
 use native.Mathlib.Nat.{zero-add}
 use native.Mathlib.Omega.{arith}
 use lib.Dec.{eqb, leb, ltb}
-use lib.ListN.{length, getD, replicate, length-append, length-replicate, List·getD-append}
-use lib.Seq.{getD-at}
+use lib.ListN.{length, getD, replicate, length-append, length-replicate, getD-replicate, List·getD-append}
+use lib.Seq.{getD-at, getD-append-add}
 use Rattle.refusals.specs.Table.{passes, firstOf}
 use Rattle.refusals.proofs.FirstLaws.{passes-line, passes-none, both-hold, three-hold}
 use Rattle.ranges.specs.Ranges.{temperatureRight, mostModulus, mostExpansion, mostLength, mostYield}
 use Rattle.law.specs.declared.Law.{Law}
 use Rattle.law.specs.declared.Law.the-variants.{Kinematic, Asymmetric}
 use Rattle.curve.specs.declared.Segment.{Segment}
-use Rattle.expansion.specs.Points.{mostPoints, noPoint, pointRight, temperaturesRise, Usable}
+use Rattle.expansion.specs.Points.{mostPoints, noPoint, noPlace, pointRight, temperaturesRise, Usable}
 use Rattle.curve.specs.Sides.{mostSegments, flat, lengthAt, tangentOf}
 use Rattle.bits.specs.Field.{within}
 use Rattle.sheet.specs.declared.Sheet.{Sheet}
@@ -53,10 +53,23 @@ listed-at at empty first (suc n) i h = by-place (λ l. listed-at at empty first 
         let last : i ≡ n = omega arith in
         rw last (getD-at (listed at first n) (at (first + n)) [] empty n (length-listed at first n))
 
-placed-at : {A : Type 0} (most : ℕ) (empty : A) (at : ℕ → A) (first n i : ℕ) → i < n → getD (placed most empty (listed at first n)) i empty ≡ at (first + i)
+placed-at : {A : Type 0} (most : ℕ) (empty nowhere : A) (at : ℕ → A) (first n i : ℕ) → i < n → getD (placed most empty (listed at first n)) i nowhere ≡ at (first + i)
 unfolding placed
-placed-at most empty at first n i h =
-    List·getD-append (listed at first n) (replicate (most - length (listed at first n)) empty) empty i (rw (length-listed at first n) h) ∙ listed-at at empty first n i h
+placed-at most empty nowhere at first n i h =
+    List·getD-append (listed at first n) (replicate (most - length (listed at first n)) empty) nowhere i (rw (length-listed at first n) h)
+    ∙ listed-at at nowhere first n i h
+
+-- Behind them the places are empty.
+placed-behind : {A : Type 0} (most : ℕ) (empty nowhere : A) (at : ℕ → A) (first n i : ℕ) → n ≤ i → i < most
+    → getD (placed most empty (listed at first n)) i nowhere ≡ empty
+unfolding placed
+placed-behind {A} most empty nowhere at first n i h place =
+    let l = listed at first n in
+    let e = replicate (most - length l) empty in
+    let past : i ≡ length l + (i - n) = omega (arith, length-listed at first n) in
+    ap (λ (k : ℕ). getD (l ++ e) k nowhere) past
+    ∙ getD-append-add l e (i - n) nowhere
+    ∙ getD-replicate (most - length l) (i - n) empty nowhere (omega (arith, length-listed at first n))
 
 -- So many places are there.
 placed-all : {A : Type 0} (most : ℕ) (empty : A) (at : ℕ → A) (first n : ℕ) → n ≤ most → length (placed most empty (listed at first n)) ≡ most
@@ -65,10 +78,10 @@ placed-all most empty at first n h =
     rw (length-append (listed at first n) (replicate (most - length (listed at first n)) empty), length-replicate (most - length (listed at first n)) empty, length-listed at first n) (omega arith)
 
 tangent-is : (s : List ℕ) (yield first n i : ℕ) → i < n → tangentOf (sideIn s yield first n) i ≡ segmentTangentIn s (first + i)
-tangent-is s yield first n i h = ap (λ (g : Segment). g .tangent .0) (placed-at mostSegments flat (segmentIn s) first n i h)
+tangent-is s yield first n i h = ap (λ (g : Segment). g .tangent .0) (placed-at mostSegments flat flat (segmentIn s) first n i h)
 
 length-is : (s : List ℕ) (yield first n i : ℕ) → i < n → lengthAt (sideIn s yield first n) i ≡ segmentLengthIn s (first + i)
-length-is s yield first n i h = ap (λ (g : Segment). g .length .0) (placed-at mostSegments flat (segmentIn s) first n i h)
+length-is s yield first n i h = ap (λ (g : Segment). g .length .0) (placed-at mostSegments flat flat (segmentIn s) first n i h)
 
 -- A length that is right is at most the greatest.
 length-most : (s : List ℕ) (first n i : ℕ) → lengthRight s first n i ≡ true → segmentLengthIn s (first + i) ≤ mostLength
@@ -130,7 +143,8 @@ coefficients-usable s few single points rise =
       single-most = single-most n (expansionIn s) single;
       points-right = λ i h.
           let fields = all-below-holds (pointFieldsRight s) n i points h in
-          ap pointRight (rw (zero-add i) at (placed-at mostPoints noPoint (pointIn s) 0 n i h)) ∙ both-hold (pointRight (pointIn s i)) _ fields .0;
+          ap pointRight (rw (zero-add i) at (placed-at mostPoints noPoint noPlace (pointIn s) 0 n i h)) ∙ both-hold (pointRight (pointIn s i)) _ fields .0;
+      empty-behind = placed-behind mostPoints noPoint noPlace (pointIn s) 0 n;
       rising = ap temperaturesRise (placed-first mostPoints noPoint (pointIn s) 0 n) ∙ rise;
     }
 

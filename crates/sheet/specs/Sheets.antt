@@ -1,5 +1,5 @@
--- The values that a sheet's bytes hold (SPEC 3.7 to 3.9) and 1, 2, 3 and 13 (SPEC 8.2), for any bytes of any length, cited by judge, tie_rod,
--- log, board and the demands; definitions only, nothing is assumed.
+-- The values that a sheet's bytes hold (SPEC 3.7 to 3.9) and 1, 2, 3 and 13 (SPEC 8.2), for any bytes of any length, cited by judge,
+-- tie_rod, log, board and the demands; definitions only, nothing is assumed.
 use Prim.Native.Nat.{ℕ, zero, suc, _+_, _-_, _*_}
 use mathlib.Core.Bool.{Bool, true, not, _&&_, _||_, cond}
 use mathlib.Core.List.{List, [], _∷_, _++_}

@@ -419,7 +419,7 @@ fn no_points() -> [Point; expansion::MOST_POINTS]
     ensures { λ r. ⌜ r ≡ placed mostPoints noPoint [] ⌝ }
 {
     [Point {
-        temperature: Tenths(0),
+        temperature: Tenths(expansion::NEVER_REACHED),
         coefficient: Expansion(0),
     }; expansion::MOST_POINTS]
 }

@@ -27,7 +27,7 @@ minus-requires : tie.Need-minus-requires
 minus-requires c κs = omega (arith, warm (c .before .before))
 
 at-requires : tie.Need-at-requires
-at-requires c κs = start c .pre .0 .expansion
+at-requires c κs = (start c .pre .0 .expansion, start c .pre .1)
 
 times-requires : tie.Need-times-requires
 times-requires c κs = (omega (arith, c .at .ensures .1), omega (arith, product c))
