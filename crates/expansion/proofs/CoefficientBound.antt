@@ -29,9 +29,9 @@ line-in-range : {p q : Point} {t : ℤ} → Between p q t → InRange (floorF (l
 line-in-range {p} {q} {t} b =
     let x = natAbs (t -ℤ p .temperature .0) in
     let y = natAbs (q .temperature .0 -ℤ t) in
-    let weighed = p .coefficient .0 * y + q .coefficient .0 * x in
+    let weighted = p .coefficient .0 * y + q .coefficient .0 * x in
     let w = between-ways b in
-    (weighed / (x + y), sym (line-floor p q t x y w weighed refl), line-most b x y (w .past) (w .rest) weighed refl)
+    (weighted / (x + y), sym (line-floor p q t x y w weighted refl), line-most b x y (w .past) (w .rest) weighted refl)
 
 -- Every point of a list lies within its ranges.
 abbrev pub AllRight : List Point → Type 0

@@ -1,4 +1,4 @@
--- The line through two points at a temperature between them: over the way from one to the other, each coefficient is weighed by the way to
+-- The line through two points at a temperature between them: over the way from one to the other, each coefficient is weighted by the way to
 -- the other point, and everything fits 64 bits. Assumes nothing.
 use Prim.Native.Nat.{ℕ, _+_, _*_, _/_, _≤_, _<_, min, max}
 use mathlib.Core.Path.{_≡_, refl, sym, ap, _∙_}
@@ -57,20 +57,20 @@ module _ (p q : Point) (t : ℤ) (x y : ℕ) (w : Ways p q t x y) where
       (omega (arith, mul-parts rise (pos x), ap (λ (n : ℕ). n * x) (sub-parts-ℤ (pos b) (pos a))))
       (is-add (is-whole (pos a) (w .some)) (is-ratio (rise *ℤ pos x) (x + y) (w .some))))
 
-  pub line-floor : (weighed : ℕ) → weighed ≡ p .coefficient .0 * y + q .coefficient .0 * x → pos (weighed / (x + y)) ≡ floorF (line p q t)
-  line-floor weighed e = rw e (floor-only (pos ((p .coefficient .0 * y + q .coefficient .0 * x) / (x + y))) (floor-quotient line-is))
+  pub line-floor : (weighted : ℕ) → weighted ≡ p .coefficient .0 * y + q .coefficient .0 * x → pos (weighted / (x + y)) ≡ floorF (line p q t)
+  line-floor weighted e = rw e (floor-only (pos ((p .coefficient .0 * y + q .coefficient .0 * x) / (x + y))) (floor-quotient line-is))
 
   -- Between its ends the line runs between the two coefficients.
   pub line-lies : (pos (min (p .coefficient .0) (q .coefficient .0)) ≤ℤ floorF (line p q t)) × (floorF (line p q t) ≤ℤ pos (max (p .coefficient .0) (q .coefficient .0)))
   line-lies =
       let a = p .coefficient .0 in
       let b = q .coefficient .0 in
-      let weighed = a * y + b * x in
-      let least : min a b * (x + y) ≤ weighed = omega (arith, mul-le-mul-right y (min-le-left a b), mul-le-mul-right x (min-le-right a b)) in
-      let most : weighed ≤ (x + y) * max a b = omega (arith, mul-le-mul-right y (le-max-left a b), mul-le-mul-right x (le-max-right a b)) in
-      rw (← line-floor weighed refl) (
-        le-of-parts (pos (min a b)) (pos (weighed / (x + y))) (omega (arith, le-div-iff-mul-le (w .some) .1 least)),
-        le-of-parts (pos (weighed / (x + y))) (pos (max a b)) (omega (arith, div-le-of-le-mul (x + y) most)),
+      let weighted = a * y + b * x in
+      let least : min a b * (x + y) ≤ weighted = omega (arith, mul-le-mul-right y (min-le-left a b), mul-le-mul-right x (min-le-right a b)) in
+      let most : weighted ≤ (x + y) * max a b = omega (arith, mul-le-mul-right y (le-max-left a b), mul-le-mul-right x (le-max-right a b)) in
+      rw (← line-floor weighted refl) (
+        le-of-parts (pos (min a b)) (pos (weighted / (x + y))) (omega (arith, le-div-iff-mul-le (w .some) .1 least)),
+        le-of-parts (pos (weighted / (x + y))) (pos (max a b)) (omega (arith, div-le-of-le-mul (x + y) most)),
       )
 
 -- At its ends it is at the two coefficients.
@@ -137,8 +137,8 @@ module _ {p q : Point} {t : ℤ} (b : Between p q t) where
       ways-between p q t (b .from) (below-is-at-most t tq (b .before))
       (test-of-strict-order tp tq (omega (arith, order-of-test tp t (b .from), strict-order-of-test t tq (b .before))))
 
-  pub weighed-most : (m : ℕ) → (p .coefficient .0 * m ≤ mostExpansion * m) × (q .coefficient .0 * m ≤ mostExpansion * m)
-  weighed-most m = (mul-le-mul-right m (coefficient-most p (b .right)), mul-le-mul-right m (coefficient-most q (b .right′)))
+  pub weighted-most : (m : ℕ) → (p .coefficient .0 * m ≤ mostExpansion * m) × (q .coefficient .0 * m ≤ mostExpansion * m)
+  weighted-most m = (mul-le-mul-right m (coefficient-most p (b .right)), mul-le-mul-right m (coefficient-most q (b .right′)))
 
   module _ (x y : ℕ) (past : pos x ≡ t -ℤ p .temperature .0) (rest : pos y ≡ q .temperature .0 -ℤ t) where
     pub ways : Ways p q t x y
@@ -158,5 +158,5 @@ module _ {p q : Point} {t : ℤ} (b : Between p q t) where
           omega (arith, ap up rest, ap dn rest, sub-parts-ℤ tq t, abs-parts t, abs-parts tq, temperatures-most),
         )
 
-    pub line-most : (weighed : ℕ) → weighed ≡ p .coefficient .0 * y + q .coefficient .0 * x → weighed / (x + y) ≤ mostExpansion
-    line-most weighed e = div-le-of-le-mul (x + y) (omega (arith, weighed-most x, weighed-most y))
+    pub line-most : (weighted : ℕ) → weighted ≡ p .coefficient .0 * y + q .coefficient .0 * x → weighted / (x + y) ≤ mostExpansion
+    line-most weighted e = div-le-of-le-mul (x + y) (omega (arith, weighted-most x, weighted-most y))

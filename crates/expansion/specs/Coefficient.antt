@@ -12,7 +12,7 @@ use Rattle.expansion.specs.declared.Coefficients.{Coefficients}
 use Rattle.expansion.specs.Points.{pointsOf}
 
 -- SPEC 5.7: the straight line through two points, at a temperature: the first coefficient, and of the difference to the second the part
--- that the temperature has gone of the way between them. It is a fraction, not rounded.
+-- that lies before the temperature. It is a fraction, not rounded.
 unfoldable pub line : Point → Point → ℤ → Frac
 line p q t =
     whole (pos (p .coefficient .0))

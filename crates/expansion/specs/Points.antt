@@ -21,7 +21,7 @@ mostPoints = 8
 abbrev pub noPoint : Point
 noPoint = record { temperature = tenths (pos 20001); coefficient = expansion 0 }
 
--- What `getD` answers behind the array, which nothing asks.
+-- SPEC 3.9: what stands for a place that the array hasn't; nothing reads there.
 abbrev pub noPlace : Point
 noPlace = record { temperature = tenths (pos 0); coefficient = expansion 0 }
 

@@ -11,7 +11,7 @@ ghost use Rattle.ranges.specs.Ranges.{temperatureRight, mostExpansion};
 ghost use Rattle.expansion.specs.Points.{mostPoints, pointsOf, pointRight, temperaturesRise, Usable};
 ghost use Rattle.expansion.specs.Coefficient.{line, coefficientOf};
 
-// The coefficient at a temperature (SPEC 3.9).
+// A point (SPEC 3.9): the coefficient at a temperature.
 pub struct Point {
     pub temperature: Tenths,
     pub coefficient: Expansion,
@@ -31,8 +31,8 @@ pub struct Coefficients {
 }
 
 impl Point {
-    // Both coefficients, each weighed by the way to the other point: of the way between the two `past` is gone and `rest` is left.
-    fn weighed(self, next: Point, past: u64, rest: u64) -> u64
+    // The sum of both coefficients, each weighted by the distance to the other point: `past` tenths from this one, `rest` to the next.
+    fn weighted(self, next: Point, past: u64, rest: u64) -> u64
         requires { ⌜ (0 < past + rest) × (past + rest < 2 ^ 32) ⌝ }
         requires room { ⌜ self .coefficient .0 * rest + next .coefficient .0 * past ≤ mostExpansion * (past + rest) ⌝ }
         ensures { λ r. ⌜ r ≡ self .coefficient .0 * rest + next .coefficient .0 * past ⌝ }
@@ -48,10 +48,10 @@ impl Point {
         ensures { λ r. ⌜ pos (r .0) ≡ floorF (line self next (temperature .0)) ⌝ }
         ensures most { λ r. ⌜ r .0 ≤ mostExpansion ⌝ }
     {
-        let past = temperature.above(self.temperature);
-        let rest = next.temperature.above(temperature);
+        let past = temperature.tenths_above(self.temperature);
+        let rest = next.temperature.tenths_above(temperature);
         let span = past + rest;
-        let coefficient = self.weighed(next, past, rest) / span;
+        let coefficient = self.weighted(next, past, rest) / span;
         Expansion(coefficient)
     }
 }

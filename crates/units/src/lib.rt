@@ -91,7 +91,7 @@ impl Tenths {
     }
 
     // How many tenths it is above another temperature.
-    pub fn above(self, other: Tenths) -> u64
+    pub fn tenths_above(self, other: Tenths) -> u64
         requires { ⌜ leZ (other .0) (self .0) ≡ true ⌝ }
         requires room { ⌜ natAbs (self .0) + natAbs (other .0) < 2 ^ 63 ⌝ }
         ensures { λ r. ⌜ pos r ≡ self .0 -ℤ other .0 ⌝ }

@@ -1,8 +1,10 @@
 use Prim.Native.Nat.{_+_, _*_, _≤_}
-use mathlib.Core.Path.{ap₂, _∙_}
+use mathlib.Core.Path.{_≡_, ap₂, _∙_}
+use mathlib.Core.Bool.{true}
 use native.Mathlib.Nat.{mul-le-mul}
 use native.Mathlib.Omega.{arith}
 use lib.IntN.{ℤ, natAbs, _*ℤ_}
+use Rattle.ranges.specs.Ranges.{temperatureRight}
 use Rattle.ranges.proofs.RangeMagnitudes.{temperature-magnitude}
 use Rattle.units.specs.Kinds.{nano}
 use Rattle.units.specs.declared.Tenths.{Tenths}
@@ -27,7 +29,10 @@ minus-requires : tie.Need-minus-requires
 minus-requires c κs = omega (arith, warm (c .before .before))
 
 at-requires : tie.Need-at-requires
-at-requires c κs = (start c .pre .0 .expansion, start c .pre .1)
+at-requires c κs =
+    let s = start c in
+    let both : (temperatureRight (s .args .sheet .reference .0) ≡ true) × (temperatureRight (s .args .temperature .0) ≡ true) = (s .pre .0 .reference-right, s .pre .1) in
+    (s .pre .0 .expansion, search both)
 
 times-requires : tie.Need-times-requires
 times-requires c κs = (omega (arith, c .at .ensures .1), omega (arith, product c))

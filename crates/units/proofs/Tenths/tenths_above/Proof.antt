@@ -1,8 +1,8 @@
 use lib.IntN.{_-ℤ_}
 use Rattle.units.proofs.Magnitudes.{magnitude-difference}
 use Rattle.units.proofs.Words.{combined-fits, difference-cast-fits, difference-cast-is}
-use Rattle.units.proofs.Tenths.above.Statement.{statement}
-use Rattle.units.proofs.Tenths.above.Tie as tie
+use Rattle.units.proofs.Tenths.tenths_above.Statement.{statement}
+use Rattle.units.proofs.Tenths.tenths_above.Tie as tie
 
 sub-excess : tie.Need-sub-excess
 sub-excess c =
@@ -19,5 +19,5 @@ returns c =
     let s = c .before .before .before .before in
     difference-cast-is (s .args .self .0) (s .args .other .0) (s .pre .1) (s .pre .0)
 
-pub above-spec : {M : Type 1} → statement M
-above-spec = tie.close (tie.spec sub-excess cast-result returns)
+pub tenths-above-spec : {M : Type 1} → statement M
+tenths-above-spec = tie.close (tie.spec sub-excess cast-result returns)
