@@ -1,10 +1,10 @@
 -- Laws of bytes written into a buffer.
 use Prim.Native.Nat.{ℕ, zero, suc, _+_, _/_, _%_, _≤_, _<_}
 use mathlib.Core.Path.{_≡_, refl, sym, ap, ap₂, _∙_}
-use mathlib.Core.List.{List, [], _∷_, _++_, append-assoc}
+use mathlib.Core.List.{List, [], _∷_, _++_, append-assoc, append-nil}
 use native.Mathlib.Nat.{add-zero, add-suc}
 use native.Mathlib.Omega.{arith}
-use lib.ListN.{length, take, drop, set, length-append, length-drop, length-set, take-append-drop}
+use lib.ListN.{length, take, drop, set, length-append, length-drop, length-set, take-append-drop, drop-of-length-le}
 use lib.Seq.{take-set-le, drop-cons, drop-set-lt, getD-set-same, take-at, take-take, drop-drop, length-take-le, take-append-le, drop-append-add, drop-append-seam}
 use Rattle.bits.specs.Layout.{bytesOf, put}
 
@@ -16,6 +16,11 @@ length-bytesOf (suc n) x = length-append (bytesOf n (x / 256)) (x % 256 ∷ []) 
 pub put-nothing : (buffer : List ℕ) (at : ℕ) → put buffer at [] ≡ buffer
 unfolding put
 put-nothing buffer at = rw (add-zero at) (take-append-drop at buffer)
+
+-- Bytes as long as a buffer, written from its start, are all of it.
+pub put-whole : (buffer bytes : List ℕ) → length buffer ≡ length bytes → put buffer 0 bytes ≡ bytes
+unfolding put
+put-whole buffer bytes e = ap (λ (l : List ℕ). bytes ++ l) (drop-of-length-le buffer {i = 0 + length bytes} (omega (arith, e))) ∙ append-nil bytes
 
 pub length-put : (buffer : List ℕ) (at : ℕ) (bytes : List ℕ) → at + length bytes ≤ length buffer → length (put buffer at bytes) ≡ length buffer
 unfolding put

@@ -56,3 +56,19 @@ mostPairs = 4096
 -- SPEC 3.11: the greatest n.
 abbrev pub mostCount : ℕ
 mostCount = 4294967295
+
+-- SPEC 15.2: the most rods of one section,
+abbrev pub mostRods : ℕ
+mostRods = 32
+
+-- the greatest area of a rod, in mm²,
+abbrev pub mostArea : ℕ
+mostArea = 1000000
+
+-- and the greatest magnitude of its offset, in mm.
+abbrev pub mostOffset : ℕ
+mostOffset = 1000
+
+-- SPEC 15.3: the greatest magnitude of a change of curvature.
+abbrev pub mostCurvature : ℕ
+mostCurvature = 1000000

@@ -1,4 +1,6 @@
 // The numbers that bound a field or a quantity (SPEC 3.6), each under one name. `specs/Ranges.antt` has the same for contracts.
+ghost use mathlib.Core.Path.{_≡_};
+ghost use Rattle.bits.specs.Field.{within, withinℤ};
 
 // Moduli and expansions.
 pub const MOST_MODULUS: u64 = 400000;
@@ -40,3 +42,36 @@ pub const MOST_PAIRS: usize = 4096;
 
 // Pairs that a state counts.
 pub const MOST_COUNT: u64 = 4294967295;
+
+// Rods of one section, the area of one in mm², its offset in mm, and a change of curvature in nano per mm.
+pub const MOST_RODS: usize = 32;
+
+pub const MOST_AREA: u64 = 1000000;
+
+pub const LEAST_OFFSET: i64 = -1000;
+
+pub const MOST_OFFSET: i64 = 1000;
+
+pub const LEAST_CURVATURE: i64 = -1000000;
+
+pub const MOST_CURVATURE: i64 = 1000000;
+
+// Whether a number lies within its bounds, both included.
+pub fn within(least: u64, most: u64, x: u64) -> bool
+    ensures { λ r. ⌜ r ≡ within least most x ⌝ }
+{
+    if x < least {
+        return false;
+    }
+    x <= most
+}
+
+// The same of a signed number.
+pub fn within_signed(least: i64, most: i64, z: i64) -> bool
+    ensures { λ r. ⌜ r ≡ withinℤ least most z ⌝ }
+{
+    if z < least {
+        return false;
+    }
+    z <= most
+}

@@ -52,6 +52,11 @@ module _ (s : List ℕ) (r : Rod) where
   passed-accepted p =
       rw (eq-eqb _ _ (p .long), eq-eqb _ _ (p .zeros), p .rod, p .ranges)
 
+-- A state written has its length.
+pub length-state : (r : Rod) → length (stateBytes r) ≡ stateLength
+unfolding stateBytes
+length-state r = length-bytesOf stateLength (packed (parts r))
+
 -- The rod of any bytes fits its fields,
 pub read-fits : (s : List ℕ) → StateFits (stateOf s)
 read-fits s =

@@ -10,7 +10,7 @@ use lib.Signed.{leZ, nonNeg, pos-natAbs}
 use mir.Syntax.{w64}
 use mir.Val.{Fits, SFits, toZ, ofZ}
 use mir.Facts.{toZ-ofZ, toZ-pos, fits-natAbs}
-use Rattle.units.proofs.Magnitudes.{magnitude-difference, magnitude-multiple, difference-not-negative}
+use Rattle.units.proofs.Magnitudes.{magnitude-difference, magnitude-multiple, magnitude-product, difference-not-negative}
 
 pub fits-of-magnitude : (z : ℤ) → natAbs z < 2 ^ 63 → SFits w64 z
 fits-of-magnitude (pos n) h = record { sfits = h }
@@ -61,3 +61,14 @@ module _ (n : ℕ) (z : ℤ) (fits : SFits w64 z) (h : (n < 2 ^ 63) × (n * natA
 
   pub multiple-in : {K : Type 0} (kind : ℤ → K) → (kind (stored (toZ w64 n *ℤ stored z)) ≡ kind (pos n *ℤ z)) × (natAbs (stored (toZ w64 n *ℤ stored z)) ≡ n * natAbs z)
   multiple-in kind = (ap kind multiple-is, rw multiple-is (magnitude-multiple n z))
+
+-- A product.
+module _ (x y : ℤ) (fits : SFits w64 x) (fits′ : SFits w64 y) (h : natAbs x * natAbs y < 2 ^ 63) where
+  pub product-fits : SFits w64 (stored x *ℤ stored y)
+  product-fits = rw (toZ-ofZ fits, toZ-ofZ fits′) (fits-of-magnitude (x *ℤ y) (rw (magnitude-product x y) h))
+
+  pub product-is : stored (stored x *ℤ stored y) ≡ x *ℤ y
+  product-is = toZ-ofZ product-fits ∙ rw (toZ-ofZ fits, toZ-ofZ fits′)
+
+  pub product-in : {K : Type 0} (kind : ℤ → K) → (kind (stored (stored x *ℤ stored y)) ≡ kind (x *ℤ y)) × (natAbs (stored (stored x *ℤ stored y)) ≡ natAbs x * natAbs y)
+  product-in kind = (ap kind product-is, rw product-is (magnitude-product x y))

@@ -9,6 +9,7 @@ use Rattle.units.specs.declared.Length.{Length}
 use Rattle.units.specs.declared.Magnitude.{Magnitude}
 use Rattle.units.specs.declared.Modulus.{Modulus}
 use Rattle.units.specs.declared.Expansion.{Expansion}
+use Rattle.units.specs.declared.Curvature.{Curvature}
 
 -- SPEC 2.1: a strain in nano, the papers' term for 10⁻⁹.
 abbrev pub nano : ℤ → Nano
@@ -37,3 +38,7 @@ modulus n = record { 0 = n }
 -- SPEC 2.1: an expansion, in nano for each tenth of a degree.
 abbrev pub expansion : ℕ → Expansion
 expansion n = record { 0 = n }
+
+-- SPEC 2.1: a curvature, in nano for each mm of offset.
+abbrev pub curvature : ℤ → Curvature
+curvature z = record { 0 = z }

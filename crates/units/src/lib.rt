@@ -1,5 +1,5 @@
-// The kinds of quantity (SPEC 2.2, 2.3). A sum or a difference stays in its kind; only a modulus leads from strain to stress, and only an
-// expansion from temperature to strain.
+// The kinds of quantity (SPEC 2.2, 2.3). A sum or a difference stays in its kind; only a modulus leads from strain to stress; an expansion
+// leads from temperature to strain, and a curvature from an offset.
 ghost use mathlib.Core.Path.{_≡_};
 ghost use Prim.Native.Nat.{_+_, _-_, _*_, _/_, _^_, _≤_, _<_};
 ghost use lib.Dec.{leb, ltb};
@@ -29,6 +29,9 @@ pub struct Modulus(pub u64);
 
 // Thermal expansion, in nano per tenth of a degree.
 pub struct Expansion(pub u64);
+
+// Curvature of a section, in nano per mm.
+pub struct Curvature(pub i64);
 
 impl Nano {
     pub fn plus(self, other: Nano) -> Nano
@@ -71,6 +74,18 @@ impl Nano {
     {
         let strain = self.0;
         strain < 0
+    }
+}
+
+impl Curvature {
+    // The strain at an offset in mm.
+    pub fn strain_at(self, offset: i64) -> Nano
+        requires { ⌜ natAbs (self .0) * natAbs offset < 2 ^ 63 ⌝ }
+        ensures { λ r. ⌜ r ≡ nano (self .0 *ℤ offset) ⌝ }
+        ensures size { λ r. ⌜ natAbs (r .0) ≡ natAbs (self .0) * natAbs offset ⌝ }
+    {
+        let strain = self.0 * offset;
+        Nano(strain)
     }
 }
 
@@ -149,12 +164,7 @@ impl Grain {
         ensures { λ r. ⌜ r ≡ grain (withSign negative (size .0)) ⌝ }
         ensures size { λ r. ⌜ natAbs (r .0) ≡ size .0 ⌝ }
     {
-        let stress = size.0 as i64;
-        if negative {
-            let below = -stress;
-            return Grain(below);
-        }
-        Grain(stress)
+        Grain(with_sign(negative, size.0))
     }
 }
 
@@ -233,4 +243,17 @@ fn size(a: i64) -> u64
     } else {
         a as u64
     }
+}
+
+// A magnitude with its sign put back.
+pub fn with_sign(negative: bool, size: u64) -> i64
+    requires { ⌜ size < 2 ^ 63 ⌝ }
+    ensures { λ r. ⌜ r ≡ withSign negative size ⌝ }
+    ensures size { λ r. ⌜ natAbs r ≡ size ⌝ }
+{
+    let whole = size as i64;
+    if negative {
+        return -whole;
+    }
+    whole
 }

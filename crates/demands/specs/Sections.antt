@@ -1,0 +1,140 @@
+-- What is claimed of sections (SPEC 15.8 to 15.11): their answers by the tables, each member as a lone rod, and demand 3 over lists of
+-- section calls; cited by proofs/Demands. Definitions only, over what a section leaves and never over the program; nothing is assumed.
+use Prim.Native.Nat.{ℕ, _+_, _<_}
+use mathlib.Core.Path.{_≡_}
+use mathlib.Core.Bool.{cond}
+use mathlib.Core.List.{List, [], _∷_, _++_, map}
+use mathlib.Core.Logic.{_⊎_, _↔_}
+use lib.ListN.{length, replicate}
+use lib.Dec.{eqb}
+use lib.IntN.{ℤ, pos}
+use Rattle.refusals.specs.Table.{NoneApplies, Given}
+use Rattle.pair.specs.Pairs.{pairBytes}
+use Rattle.row.specs.Rows.{rowLength}
+use Rattle.sheet.specs.Sheets.{sheetOf}
+use Rattle.sheet.specs.Sound.{SheetSound}
+use Rattle.state.specs.States.{stateLength, stateOf}
+use Rattle.section.specs.declared.Member.{Member}
+use Rattle.section.specs.declared.Change.{Change}
+use Rattle.section.specs.Sections.{memberPair, memberTable, sectionRefusals, forceOf, momentOf, sum, sectionLeaves}
+use Rattle.tie_rod.specs.Calls.{Call, call, single, callLeaves}
+use Rattle.demands.specs.Lists.{Situation, begins, afterCall, Holds}
+use Rattle.demands.specs.Demands.{numbersOf}
+
+-- ---- Demand 1 for a section
+
+-- SPEC 15.8: something holds of each of some members,
+abbrev pub Each : (Member → Type 0) → List Member → Type 0
+Each P [] = Unit {0}
+Each P (m ∷ members) = P m × Each P members
+
+-- and of each with the one that stands at its place afterwards.
+abbrev pub EachAfter : (Member → Member → Type 0) → (members after : List Member) → Type 0
+EachAfter P [] [] = Unit {0}
+EachAfter P [] (n ∷ after) = ⊥
+EachAfter P (m ∷ members) [] = ⊥
+EachAfter P (m ∷ members) (n ∷ after) = P m n × EachAfter P members after
+
+-- SPEC 15.5: force and moment of members as they stand: the sums over their states' stresses.
+abbrev pub forceNow : List Member → ℤ
+forceNow members = sum (map (λ (m : Member). forceOf m (stateOf (m .state) .stress .0)) members)
+
+abbrev pub momentNow : List Member → ℤ
+momentNow members = sum (map (λ (m : Member). momentOf m (stateOf (m .state) .stress .0)) members)
+
+-- SPEC 15.9: the single pair that a call is to a member, with room for a row and a state.
+abbrev pub loneCall : Change → Member → Call
+loneCall c m = call single (pairBytes (memberPair c m)) (replicate rowLength 0) (replicate stateLength 0)
+
+-- SPEC 15.9: a member that moved is where a lone rod of its state is after that single pair, which is accepted.
+pub record MovedAlone (sheet : List ℕ) (c : Change) (m after : Member) : Type 0 where
+  pub accepted : callLeaves sheet (m .state) (loneCall c m) .reply .number ≡ 0
+  pub state : after .state ≡ callLeaves sheet (m .state) (loneCall c m) .next
+  pub area : after .area ≡ m .area
+  pub offset : after .offset ≡ m .offset
+
+module _ (sheet : List ℕ) (c : Change) (members : List Member) where
+  -- SPEC 15.8: why a section is answered so. The sheet, or the section as a whole, is refused: place 0.
+  pub record BySection (number place : ℕ) : Type 0 where
+    pub given : Given (sectionRefusals sheet c members) number
+    pub nowhere : place ≡ 0
+
+  -- A member is given the number, and no member before it is given one; its place is counted from 1.
+  pub record ByMember (number place : ℕ) : Type 0 where
+    pub own : NoneApplies (sectionRefusals sheet c members)
+    pub before : List Member
+    pub member : Member
+    pub behind : List Member
+    pub in-order : members ≡ before ++ (member ∷ behind)
+    pub none-before : Each (λ (m : Member). NoneApplies (memberTable (sheetOf sheet) c m)) before
+    pub given : Given (memberTable (sheetOf sheet) c member) number
+    pub at : place ≡ length before + 1
+
+  -- Every member passes: number 0 and place 0.
+  pub record ByNobody (number place : ℕ) : Type 0 where
+    pub own : NoneApplies (sectionRefusals sheet c members)
+    pub all-pass : Each (λ (m : Member). NoneApplies (memberTable (sheetOf sheet) c m)) members
+    pub no-number : number ≡ 0
+    pub nowhere : place ≡ 0
+
+  -- One of these three, and there is no other way.
+  abbrev pub SectionReason : (number place : ℕ) → Type 0
+  SectionReason number place = BySection number place ⊎ (ByMember number place ⊎ ByNobody number place)
+
+-- SPEC 15.8: a section's answer is that of the tables, and all members move or none does.
+pub record SectionAnswered (sheet : List ℕ) (c : Change) (members : List Member) : Type 0 where
+  pub order : numbersOf (sectionRefusals sheet c members) ≡ 1 ∷ 2 ∷ 3 ∷ 13 ∷ 14 ∷ []
+  pub member-order : (m : Member) → numbersOf (memberTable (sheetOf sheet) c m) ≡ 4 ∷ 5 ∷ 6 ∷ 8 ∷ 9 ∷ 11 ∷ 10 ∷ []
+  -- a number and a place are answered exactly where there is a reason for them
+  pub exactly : (number place : ℕ)
+      → ((sectionLeaves sheet c members .reply .number ≡ number) × (sectionLeaves sheet c members .reply .place ≡ place))
+      ↔ SectionReason sheet c members number place
+  -- beside a number force and moment are 0, and every member is as it was, byte for byte
+  pub none-moves : (sectionLeaves sheet c members .reply .number ≡ 0 → ⊥) → sectionLeaves sheet c members .members ≡ members
+  pub no-force : (sectionLeaves sheet c members .reply .number ≡ 0 → ⊥) → sectionLeaves sheet c members .reply .force ≡ pos 0
+  pub no-moment : (sectionLeaves sheet c members .reply .number ≡ 0 → ⊥) → sectionLeaves sheet c members .reply .moment ≡ pos 0
+  -- else each member moved as a lone rod does, and force and moment are those of the members as they stand then
+  pub all-move : sectionLeaves sheet c members .reply .number ≡ 0 → EachAfter (MovedAlone sheet c) members (sectionLeaves sheet c members .members)
+  pub force : sectionLeaves sheet c members .reply .number ≡ 0
+      → sectionLeaves sheet c members .reply .force ≡ forceNow (sectionLeaves sheet c members .members)
+  pub moment : sectionLeaves sheet c members .reply .number ≡ 0
+      → sectionLeaves sheet c members .reply .moment ≡ momentNow (sectionLeaves sheet c members .members)
+  -- SPEC 15.4: 4 is no member's number where its state has a state's length
+  pub no-4 : (m : Member) → length (m .state) ≡ stateLength → Given (memberTable (sheetOf sheet) c m) 4 → ⊥
+
+-- ---- Demand 3 for sections
+
+-- SPEC 15.10: what a list of section calls has come to: the members, and the changes of the calls accepted so far.
+pub record SectionSituation : Type 0 where
+  pub members : List Member
+  pub changes : List Change
+
+-- SPEC 15.10: where a list begins.
+abbrev pub sectionBegins : List Member → SectionSituation
+sectionBegins members = record { members = members; changes = [] }
+
+-- All calls are on one sheet, and each is given the members that the one before it left.
+module _ (sheet : List ℕ) where
+  -- SPEC 15.10: an accepted call adds its change, by its number alone; a refused one adds nothing.
+  abbrev pub afterSection : SectionSituation → Change → SectionSituation
+  afterSection s c =
+      let l = sectionLeaves sheet c (s .members) in
+      record { members = l .members; changes = s .changes ++ cond (eqb (l .reply .number) 0) (c ∷ []) [] }
+
+  -- SPEC 15.10: the situation of a lone rod behind the single pairs that some changes are to a member.
+  unfoldable pub loneAfter : Situation → Member → List Change → Situation
+  loneAfter s m [] = s
+  loneAfter s m (c ∷ changes) = loneAfter (afterCall sheet s (loneCall c m)) m changes
+
+  module _ (sound : SheetSound (sheetOf sheet)) (unused : List ℕ) where
+    -- SPEC 15.11: what holds of a member behind some accepted calls. It is where the lone rod is that began unused and was given their own
+    -- pairs, all of which it accepted, and demand 3's claim holds there.
+    pub record LikeLone (changes : List Change) (m : Member) : Type 0 where
+      pub state : m .state ≡ loneAfter (begins unused) m changes .state
+      pub history : loneAfter (begins unused) m changes .history ≡ map (λ (c : Change). memberPair c m) changes
+      pub holds : Holds sheet sound (loneAfter (begins unused) m changes)
+
+    -- SPEC 15.11: demand 3 for a list of section calls: it holds of every member before each call, and at the end.
+    abbrev pub AtEverySection : SectionSituation → List Change → Type 0
+    AtEverySection s [] = Each (LikeLone (s .changes)) (s .members)
+    AtEverySection s (c ∷ changes) = Each (LikeLone (s .changes)) (s .members) × AtEverySection (afterSection s c) changes

@@ -1,0 +1,9 @@
+pub mod MemberLaws
+pub mod Openings
+pub mod Numbers
+pub mod SectionLaws
+pub mod SectionBounds
+pub mod Rows
+pub mod Parts
+pub mod Stepwise
+pub mod Tallying
