@@ -7,7 +7,7 @@ use borrow.Author.Tests.{ne-eqb, eq-eqb, eqb-true}
 use native.Mathlib.Omega.{arith}
 use lib.Dec.{eqb}
 use lib.IntN.{ℤ, pos, natAbs, _+ℤ_, +ℤ-assoc, +ℤ-idl, +ℤ-idr}
-use lib.ListN.{length}
+use lib.ListN.{length, length-append}
 use Rattle.refusals.specs.Table.{Answer, passes, refused, refusal, firstOf}
 use Rattle.refusals.proofs.FirstLaws.{both-hold, stops-first, goes-on, refused-anyhow, same-refused}
 use Rattle.units.proofs.Magnitudes.{magnitude-sum}
@@ -22,6 +22,7 @@ use Rattle.section.specs.declared.Opening.{Opening}
 use Rattle.section.specs.Sections.{memberRight, allRight, callRight, sectionRefusals, memberAnswer, forceOf, momentOf, Move, moveOf, Moves, all, stopped, movesOn, movesFrom, sum, SectionLeft, sectionLeft, settled, sectionBy, sectionLeaves}
 use Rattle.section.specs.Tallies.{endedAt, addedTo, counted, sectionsOwn, tallyOf, tallyAll, nextBy, nextOf, nextAll, settledAfter, replyOf, MovementRight, Room, Ready, openRefusals, startBy, Opened}
 use Rattle.section.proofs.MemberLaws.{force-most, force-magnitude, moment-most, moment-magnitude, next-stress-most}
+use Rattle.section.proofs.MovesLaws.{same-all, Pass, movesOf, pass-move, all-pass, one-stopped}
 use Rattle.section.proofs.Numbers.{Numbered, lines-numbered, member-numbered}
 
 -- ---- Room
@@ -157,27 +158,16 @@ module _ (x : Movement) where
       by-right true a e behind = by-answer a e behind
       by-right false a e behind = stands x 14 ms (λ z. omega (arith, z))
 
-  same-all : {v w : List Move} → all v ≡ all w → v ≡ w
-  same-all e = cc
-
-  all-is-not-stopped : {v : List Move} {n p : ℕ} → all v ≡ stopped n p → ⊥
-  all-is-not-stopped e = let z : _≡_ {A = ℕ} 0 1 = cc in omega (arith, z)
-
   -- Where every member passes, each one's next is what it moves to.
-  nexts : (place : ℕ) (ms : List Member) {vs : List Move} → allRight ms ≡ true → moves place ms ≡ all vs → nextAll x ms ≡ map (λ (v : Move). v .to) vs
-  unfolding allRight movesFrom nextOf
-  nexts place [] right e = ap (λ (vs : List Move). map (λ (v : Move). v .to) vs) (same-all e)
-  nexts place (m ∷ ms) {vs} right e =
+  nexts : (ms : List Member) (advances : List Advance) → allRight ms ≡ true → Pass (x .sheet) (x .change) ms advances
+      → nextAll x ms ≡ map (λ (v : Move). v .to) (movesOf (x .sheet) (x .change) ms advances)
+  unfolding allRight nextOf
+  nexts [] advances right pass = refl
+  nexts (m ∷ ms) [] right pass = absurd pass
+  nexts (m ∷ ms) (a ∷ advances) right (e, pass) =
       let both = both-hold (memberRight m) (allRight ms) right in
-      by-answer (answer m) (moves (place + 1) ms) (both .0) e (λ ws is. nexts (place + 1) ms {vs = ws} (both .1) is) refl
-    where
-      by-answer : (a : Answer Advance) (v : Moves) → memberRight m ≡ true → movesOn m place a v ≡ all vs
-          → ((ws : List Move) → moves (place + 1) ms ≡ all ws → nextAll x ms ≡ map (λ (w : Move). w .to) ws) → moves (place + 1) ms ≡ v
-          → cond (memberRight m) (nextBy m a) m ∷ nextAll x ms ≡ map (λ (w : Move). w .to) vs
-      by-answer (passes a) (all ws) one e behind is =
-          rw one ((λ i. moveOf m a .to ∷ behind ws is i) ∙ ap (λ (us : List Move). map (λ (w : Move). w .to) us) (same-all e))
-      by-answer (passes a) (stopped n p) one e behind is = absurd (all-is-not-stopped (sym e))
-      by-answer (refused n) v one e behind is = absurd (all-is-not-stopped (sym e))
+      let first : cond (memberRight m) (nextBy m (answer m)) m ≡ moveOf m a .to = rw (both .0, e) in
+      λ i. first i ∷ nexts ms advances (both .1) pass i
 
 -- A refused member has a number, and its place is one of the members'.
 pub record StoppedAt (place members n p : ℕ) : Type 0 where
@@ -186,22 +176,10 @@ pub record StoppedAt (place members n p : ℕ) : Type 0 where
   pub most : p < place + members
 
 pub stopped-at : (h : Sheet) (c : Change) (place : ℕ) (ms : List Member) {n p : ℕ} → movesFrom h c place ms ≡ stopped n p → StoppedAt place (length ms) n p
-unfolding movesFrom
-stopped-at h c place [] e = absurd (all-is-not-stopped (record { sheet = h; change = c }) e)
-stopped-at h c place (m ∷ ms) {n} {p} e = by-answer (memberAnswer h c m) refl (movesFrom h c (place + 1) ms) e (λ is. stopped-at h c (place + 1) ms is)
-  where
-    same-stopped : {a b a′ b′ : ℕ} → stopped a b ≡ stopped a′ b′ → (a ≡ a′) × (b ≡ b′)
-    same-stopped e = (cc, cc)
-
-    by-answer : (a : Answer Advance) → memberAnswer h c m ≡ a → (v : Moves) → movesOn m place a v ≡ stopped n p
-        → (v ≡ stopped n p → StoppedAt (place + 1) (length ms) n p) → StoppedAt place (suc (length ms)) n p
-    by-answer (refused k) is v e behind =
-        let (number, at) = same-stopped e in
-        record { numbered = subst Numbered number (member-numbered h c m is); least = omega (arith, at); most = omega (arith, at) }
-    by-answer (passes a) is (all vs) e behind = absurd (all-is-not-stopped (record { sheet = h; change = c }) e)
-    by-answer (passes a) is (stopped k q) e behind =
-        let rest = behind e in
-        record { numbered = rest .numbered; least = omega (arith, rest .least); most = omega (arith, rest .most) }
+stopped-at h c place ms e =
+    let one = one-stopped h c place ms e in
+    let long = ap (λ (l : List Member). length l) (one .in-order) ∙ length-append (one .before) (one .member ∷ one .behind) in
+    record { numbered = member-numbered h c (one .member) (one .refuses); least = omega (arith, one .at); most = omega (arith, one .at, long) }
 
 -- ---- The whole
 
@@ -242,8 +220,10 @@ module _ (sheet : List ℕ) (c : Change) (ms after : List Member) (o : Opening) 
       let force = +ℤ-idl (forces vs) in
       let moment = +ℤ-idl (moments vs) in
       let reply = ap replyOf (tally ∙ all-are) in
+      let passing = all-pass (sheetOf sheet) c 1 ms e in
+      let same = same-all (sym (pass-move (sheetOf sheet) c 1 ms (passing .advances) (passing .pass)) ∙ e) in
       let members : after ≡ map (λ (v : Move). v .to) vs = moved ∙ ap (λ (y : Tally). cond (eqb (y .number) 0) (nextAll (o .movement) ms) ms) all-are
-      ∙ ap (λ (y : Movement). nextAll y ms) is ∙ nexts whole 1 ms right e in
+      ∙ ap (λ (y : Movement). nextAll y ms) is ∙ nexts whole ms (passing .advances) right (passing .pass) ∙ ap (λ (ws : List Move). map (λ (v : Move). v .to) ws) same in
       (λ i. sectionLeft (reply i) (members i)) ∙ (λ i. sectionLeft (record { number = 0; place = 0; force = force i; moment = moment i }) (map (λ (v : Move). v .to) vs))
 
   by-right : (r : Bool) → allRight ms ≡ r → o .movement ≡ whole → o .start ≡ so-far (pos 0) (pos 0) 0
