@@ -124,7 +124,7 @@ module _ (sheet : List ℕ) (passed : firstOf (sheetRefusals sheet) (sheetOf she
 -- ---- The theorem
 
 -- A sheet from which an unused rod is made passes 1 to 3 and 13, and the bytes are that rod's.
-unused-made : (sheet : List ℕ) {first : List ℕ} → unusedAnswer sheet ≡ passes first
+pub unused-made : (sheet : List ℕ) {first : List ℕ} → unusedAnswer sheet ≡ passes first
     → (firstOf (sheetRefusals sheet) (sheetOf sheet) ≡ passes (sheetOf sheet)) × (first ≡ stateBytes (unusedOf (sheetOf sheet)))
 unfolding unusedAnswer sheetRefusals sheetFieldRefusals firstOf
 unused-made sheet {first} e =

@@ -1,5 +1,6 @@
--- The three demands of the mission, in their final form (SPEC 9.11 to 9.13, 11.8 to 11.11). They are over the definitions of a call on
--- bytes, with which the contracts of the entries are equations; what each claims is said in specs/Demands and specs/Lists.
+-- The three demands of the mission, in their final form (SPEC 9.11 to 9.13, 11.8 to 11.11), and what is promised of sections (SPEC 15.8 to
+-- 15.11). They are over the definitions of what calls leave, with which the contracts of the entries are equations; what each claims is said
+-- in specs/Demands, specs/Lists and specs/Sections.
 use Prim.Native.Nat.{ℕ}
 use mathlib.Core.Path.{_≡_}
 use mathlib.Core.List.{List}
@@ -7,12 +8,17 @@ use Rattle.refusals.specs.Table.{passes, NoneApplies}
 use Rattle.sheet.specs.Sheets.{sheetOf}
 use Rattle.sheet.specs.Sound.{SheetSound}
 use Rattle.judge.specs.Standing.{standingRefusals}
+use Rattle.section.specs.declared.Member.{Member}
+use Rattle.section.specs.declared.Change.{Change}
 use Rattle.tie_rod.specs.Calls.{Call, unusedAnswer}
 use Rattle.demands.specs.Lists.{begins, AtEveryStop}
 use Rattle.demands.specs.Demands.{Answered, SolvedFrom}
+use Rattle.demands.specs.Sections.{Each, SectionAnswered, sectionBegins, AtEverySection}
 use Rattle.demands.proofs.Demand1.{all-answered}
 use Rattle.demands.proofs.Demand2.{all-solved}
 use Rattle.demands.proofs.Demand3.{all-within}
+use Rattle.demands.proofs.SectionAnswers.{section-answered}
+use Rattle.demands.proofs.SectionLists.{sections-within}
 
 -- SPEC 9.11, demand 1: any bytes of any length, as sheet and as state, with any call, forecast or unused rod asked of them, are answered
 -- with the number and place that the tables give and with no others, and all lent bytes are as the stage of the refusal says.
@@ -30,3 +36,15 @@ demand-2 = all-solved
 pub demand-3 : (sheet first : List ℕ) → unusedAnswer sheet ≡ passes first
     → (sound : SheetSound (sheetOf sheet)) × ((calls : List Call) → AtEveryStop sheet sound (begins first) calls)
 demand-3 = all-within
+
+-- SPEC 15.8, 15.9: a section on any bytes as sheet, with any change and any members, is answered with the number and place that the tables
+-- give and with no others; all members move, each as a lone rod does, or none does; and force and moment are those of the members.
+pub section-demand-1 : (sheet : List ℕ) (c : Change) (members : List Member) → SectionAnswered sheet c members
+section-demand-1 = section-answered
+
+-- SPEC 15.11: for any sheet from which an unused rod is made, any members that begin as such rods, and any list of section calls, each member
+-- is behind every call where a lone rod is that was given the accepted calls' own pairs, and demand 3's claim holds of it.
+pub section-demand-3 : (sheet first : List ℕ) → unusedAnswer sheet ≡ passes first
+    → (sound : SheetSound (sheetOf sheet)) × ((members : List Member) → Each (λ (m : Member). m .state ≡ first) members
+    → (changes : List Change) → AtEverySection sheet sound first (sectionBegins members) changes)
+section-demand-3 = sections-within

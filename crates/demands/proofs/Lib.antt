@@ -3,4 +3,7 @@ pub mod Demand1
 pub mod Accepted
 pub mod Demand2
 pub mod Demand3
+pub mod LoneRods
+pub mod SectionAnswers
+pub mod SectionLists
 pub mod Demands

@@ -1,0 +1,225 @@
+-- Demand 1 for a section (SPEC 15.8, 15.9): its number and place are those of the tables, all members move or none does, each that moves is
+-- where a lone rod is, and force and moment are those of the members as they stand then.
+use Prim.Native.Nat.{ℕ, _+_}
+use mathlib.Core.Path.{_≡_, refl, sym, ap, subst, _∙_}
+use mathlib.Core.List.{List, [], _∷_, _++_, map}
+use mathlib.Core.Bool.{not}
+use mathlib.Core.Logic.{_⊎_, inl, inr, _↔_}
+use native.Mathlib.Omega.{arith}
+use borrow.Author.Tests.{eq-eqb}
+use lib.Dec.{eqb}
+use lib.IntN.{ℤ, pos, _+ℤ_}
+use lib.ListN.{length}
+use Rattle.refusals.specs.Table.{Refusal, refusal, Answer, passes, refused, firstOf, NoneApplies, Given, Decided}
+use Rattle.refusals.proofs.FirstLaws.{none-passes, passes-none-applies, given-refused, refused-given, both-pass, decides, answer-number}
+use Rattle.sheet.specs.declared.Sheet.{Sheet}
+use Rattle.sheet.specs.Sheets.{sheetOf, sheetRefusals, sheetFieldRefusals}
+use Rattle.sheet.specs.Sound.{SheetSound}
+use Rattle.sheet.proofs.Passed.{passed-sound}
+use Rattle.pair.specs.Pairs.{pairInRange}
+use Rattle.rod.specs.declared.Rod.{Rod}
+use Rattle.rod.specs.declared.step.Advance.{Advance}
+use Rattle.rod.specs.Against.{againstRefusals}
+use Rattle.rod.specs.Steps.{advanceOf, stepRefusals}
+use Rattle.state.specs.States.{stateOf, stateLength, stateRefusals, stateFieldRefusals}
+use Rattle.state.proofs.RoundTrip.{rod-back}
+use Rattle.section.specs.declared.Member.{Member}
+use Rattle.section.specs.declared.Change.{Change}
+use Rattle.section.specs.Sections.{sectionRefusals, memberPair, memberTable, memberAnswer, forceOf, momentOf, withState, Move, moveOf, Moves, all, stopped, movesFrom, sum, SectionLeft, turnedAway, moved, settled, sectionBy, sectionLeaves}
+use Rattle.section.proofs.MemberLaws.{member-passed}
+use Rattle.section.proofs.MovesLaws.{Pass, movesOf, pass-move, one-stops, all-pass, one-stopped, same-all, same-stopped, all-is-not-stopped}
+use Rattle.section.proofs.Numbers.{Numbered, lines-numbered, member-numbered}
+use Rattle.demands.specs.Demands.{numbersOf}
+use Rattle.demands.specs.Sections.{Each, EachAfter, forceNow, momentNow, MovedAlone, BySection, ByMember, ByNobody, SectionReason, SectionAnswered}
+use Rattle.demands.proofs.LoneRods.{lone-number, lone-next}
+
+module _ (sheet : List ℕ) (c : Change) (ms : List Member) where
+  abbrev h : Sheet
+  h = sheetOf sheet
+
+  abbrev lines : List Refusal
+  lines = sectionRefusals sheet c ms
+
+  -- ---- The three ways
+
+  pub when-section : {n : ℕ} → Given lines n → sectionLeaves sheet c ms ≡ turnedAway n 0 ms
+  unfolding sectionLeaves
+  when-section g = ap (λ (q : Answer Sheet). sectionBy q c ms) (given-refused lines h g)
+
+  pub when-moves : {v : Moves} → NoneApplies lines → movesFrom h c 1 ms ≡ v → sectionLeaves sheet c ms ≡ settled v ms
+  unfolding sectionLeaves
+  when-moves none e = ap (λ (q : Answer Sheet). sectionBy q c ms) (none-passes lines h none) ∙ ap (λ (v : Moves). settled v ms) e
+
+  section-numbered : {n : ℕ} → Given lines n → Numbered n
+  unfolding sectionRefusals
+  section-numbered g = lines-numbered sheet _ h (given-refused lines h g)
+
+  -- Members that pass, by their tables and by their answers.
+  each-pass : (l : List Member) → Each (λ (m : Member). NoneApplies (memberTable h c m)) l → (advances : List Advance) × Pass h c l advances
+  unfolding memberAnswer
+  each-pass [] none = ([], tt)
+  each-pass (m ∷ l) (none, rest) =
+      let a = advanceOf h (stateOf (m .state)) (memberPair c m) in
+      let (advances, pass) = each-pass l rest in
+      (a ∷ advances, (none-passes (memberTable h c m) a none, pass))
+
+  pass-each : (l : List Member) (advances : List Advance) → Pass h c l advances → Each (λ (m : Member). NoneApplies (memberTable h c m)) l
+  unfolding memberAnswer
+  pass-each [] advances pass = tt
+  pass-each (m ∷ l) [] pass = absurd pass
+  pass-each (m ∷ l) (a ∷ advances) (e, pass) =
+      (passes-none-applies (memberTable h c m) (advanceOf h (stateOf (m .state)) (memberPair c m)) e, pass-each l advances pass)
+
+  -- ---- Number and place
+
+  abbrev Told : (l : SectionLeft) (number place : ℕ) → Type 0
+  Told l number place = (l .reply .number ≡ number) × (l .reply .place ≡ place)
+
+  abbrev Reasons : (number place : ℕ) → Type 0
+  Reasons number place = SectionReason sheet c ms number place
+
+  reason-told : (number place : ℕ) → Reasons number place → Told (sectionLeaves sheet c ms) number place
+  unfolding memberAnswer
+  reason-told number place (inl by) =
+      subst (λ (l : SectionLeft). Told l number place) (sym (when-section (by .given))) (refl, sym (by .nowhere))
+  reason-told number place (inr (inl by)) =
+      let (advances, pass) = each-pass (by .before) (by .none-before) in
+      let refuses = given-refused (memberTable h c (by .member)) (advanceOf h (stateOf (by .member .state)) (memberPair c (by .member))) (by .given) in
+      let stops = ap (movesFrom h c 1) (by .in-order) ∙ one-stops h c 1 (by .before) advances (by .member) (by .behind) pass refuses in
+      subst (λ (l : SectionLeft). Told l number place) (sym (when-moves (by .own) stops)) (refl, omega (arith, by .at))
+  reason-told number place (inr (inr by)) =
+      let (advances, pass) = each-pass ms (by .all-pass) in
+      subst (λ (l : SectionLeft). Told l number place) (sym (when-moves (by .own) (pass-move h c 1 ms advances pass))) (sym (by .no-number), sym (by .nowhere))
+
+  -- A section goes one of three ways.
+  record StopsAt : Type 0 where
+    none : NoneApplies lines
+    number : ℕ
+    place : ℕ
+    stops : movesFrom h c 1 ms ≡ stopped number place
+
+  record AllMove : Type 0 where
+    none : NoneApplies lines
+    advances : List Advance
+    pass : Pass h c ms advances
+
+  ways : ((n : ℕ) × Given lines n) ⊎ (StopsAt ⊎ AllMove)
+  ways = by-lines (decides lines)
+    where
+      by-moves : NoneApplies lines → (v : Moves) → movesFrom h c 1 ms ≡ v → ((n : ℕ) × Given lines n) ⊎ (StopsAt ⊎ AllMove)
+      by-moves none (all vs) e = let p = all-pass h c 1 ms e in inr (inr (record { none = none; advances = p .advances; pass = p .pass }))
+      by-moves none (stopped n p) e = inr (inl (record { none = none; number = n; place = p; stops = e }))
+
+      by-lines : Decided lines → ((n : ℕ) × Given lines n) ⊎ (StopsAt ⊎ AllMove)
+      by-lines (inl g) = inl g
+      by-lines (inr none) = by-moves none (movesFrom h c 1 ms) refl
+
+  stops-leaves : (x : StopsAt) → sectionLeaves sheet c ms ≡ turnedAway (x .number) (x .place) ms
+  stops-leaves x = when-moves (x .none) (x .stops)
+
+  pub all-leaves : (advances : List Advance) → NoneApplies lines → Pass h c ms advances → sectionLeaves sheet c ms ≡ moved (movesOf h c ms advances)
+  all-leaves advances none pass = when-moves none (pass-move h c 1 ms advances pass)
+
+  told-reason : (number place : ℕ) → Told (sectionLeaves sheet c ms) number place → Reasons number place
+  unfolding memberAnswer
+  told-reason number place told = by-way ways
+    where
+      by-way : ((n : ℕ) × Given lines n) ⊎ (StopsAt ⊎ AllMove) → Reasons number place
+      by-way (inl (n, g)) =
+          let (is, at) = subst (λ (l : SectionLeft). Told l number place) (when-section g) told in
+          inl (record { given = subst (Given lines) is g; nowhere = sym at })
+      by-way (inr (inl x)) =
+          let (is, at) = subst (λ (l : SectionLeft). Told l number place) (stops-leaves x) told in
+          let one = one-stopped h c 1 ms (x .stops) in
+          let given = refused-given (memberTable h c (one .member)) (advanceOf h (stateOf (one .member .state)) (memberPair c (one .member))) (one .refuses) in
+          inr (inl (record {
+            own = x .none;
+            before = one .before;
+            member = one .member;
+            behind = one .behind;
+            in-order = one .in-order;
+            none-before = pass-each (one .before) (one .advances) (one .pass);
+            given = subst (Given (memberTable h c (one .member))) is given;
+            at = omega (arith, one .at, at);
+          }))
+      by-way (inr (inr x)) =
+          let (is, at) = subst (λ (l : SectionLeft). Told l number place) (all-leaves (x .advances) (x .none) (x .pass)) told in
+          inr (inr (record { own = x .none; all-pass = pass-each ms (x .advances) (x .pass); no-number = sym is; nowhere = sym at }))
+
+  -- ---- All or none
+
+  abbrev number : ℕ
+  number = sectionLeaves sheet c ms .reply .number
+
+  -- What holds of members as they were, with no force and no moment, holds beside a number;
+  beside-number : (P : SectionLeft → Type 0) → ((n p : ℕ) → P (turnedAway n p ms)) → (number ≡ 0 → ⊥) → P (sectionLeaves sheet c ms)
+  beside-number P kept some = by-way ways
+    where
+      by-way : ((n : ℕ) × Given lines n) ⊎ (StopsAt ⊎ AllMove) → P (sectionLeaves sheet c ms)
+      by-way (inl (n, g)) = subst P (sym (when-section g)) (kept n 0)
+      by-way (inr (inl x)) = subst P (sym (stops-leaves x)) (kept (x .number) (x .place))
+      by-way (inr (inr x)) = absurd (some (ap (λ (l : SectionLeft). l .reply .number) (all-leaves (x .advances) (x .none) (x .pass))))
+
+  -- what holds of members that all passed, beside none.
+  pub without-number : (P : SectionLeft → Type 0) → ((advances : List Advance) → NoneApplies lines → Pass h c ms advances → P (moved (movesOf h c ms advances)))
+      → number ≡ 0 → P (sectionLeaves sheet c ms)
+  without-number P moving none = by-way ways
+    where
+      by-way : ((n : ℕ) × Given lines n) ⊎ (StopsAt ⊎ AllMove) → P (sectionLeaves sheet c ms)
+      by-way (inl (n, g)) = absurd (section-numbered g .0 (sym (ap (λ (l : SectionLeft). l .reply .number) (when-section g)) ∙ none))
+      by-way (inr (inl x)) =
+          let one = one-stopped h c 1 ms (x .stops) in
+          absurd (member-numbered h c (one .member) (one .refuses) .0 (sym (ap (λ (l : SectionLeft). l .reply .number) (stops-leaves x)) ∙ none))
+      by-way (inr (inr x)) = subst P (sym (all-leaves (x .advances) (x .none) (x .pass))) (moving (x .advances) (x .none) (x .pass))
+
+  pub sheet-passes : NoneApplies lines → (firstOf (sheetRefusals sheet) h ≡ passes h) × SheetSound h
+  unfolding sectionRefusals
+  sheet-passes none =
+      let passed = both-pass (sheetRefusals sheet) _ h h (none-passes lines h none) .0 in
+      (passed, passed-sound sheet passed .1)
+
+  moved-alone : firstOf (sheetRefusals sheet) h ≡ passes h → SheetSound h → (l : List Member) (advances : List Advance) → Pass h c l advances
+      → EachAfter (MovedAlone sheet c) l (map (λ (v : Move). v .to) (movesOf h c l advances))
+  moved-alone passed sound [] advances pass = tt
+  moved-alone passed sound (m ∷ l) [] pass = absurd pass
+  moved-alone passed sound (m ∷ l) (a ∷ advances) (e, pass) =
+      (record { accepted = lone-number sheet passed sound c m e; state = sym (lone-next sheet passed sound c m e); area = refl; offset = refl }, moved-alone passed sound l advances pass)
+
+  -- Force and moment are those of the members as they stand afterwards, since their states hold the stresses.
+  sums-now : SheetSound h → (l : List Member) (advances : List Advance) → Pass h c l advances
+      → let moves = movesOf h c l advances in let after = map (λ (v : Move). v .to) moves in
+      (sum (map (λ (v : Move). v .force) moves) ≡ forceNow after) × (sum (map (λ (v : Move). v .moment) moves) ≡ momentNow after)
+  unfolding sum
+  sums-now sound [] advances pass = (refl, refl)
+  sums-now sound (m ∷ l) [] pass = absurd pass
+  sums-now sound (m ∷ l) (a ∷ advances) (e, pass) =
+      let back = ap (λ (r : Rod). r .stress .0) (sym (rod-back (a .rod) (member-passed h c m sound e .next .fits))) in
+      let (forces, moments) = sums-now sound l advances pass in
+      ((λ i. forceOf m (back i) +ℤ forces i), (λ i. momentOf m (back i) +ℤ moments i))
+
+  -- 4 can't be a member's number.
+  no-four : (m : Member) → length (m .state) ≡ stateLength → Given (memberTable h c m) 4 → ⊥
+  unfolding memberTable stateRefusals stateFieldRefusals againstRefusals stepRefusals firstOf
+  no-four m long g =
+      let v = advanceOf h (stateOf (m .state)) (memberPair c m) in
+      let behind = (stateFieldRefusals (m .state) ++ againstRefusals h (stateOf (m .state))) ++ (refusal 8 (not (pairInRange (memberPair c m))) ∷ stepRefusals h (stateOf (m .state)) (memberPair c m)) in
+      let e : firstOf behind v ≡ refused 4 = rw (eq-eqb (length (m .state)) stateLength long) at (given-refused (memberTable h c m) v g) in
+      answer-number (λ (n : ℕ). n ≡ 4 → ⊥) behind v
+      ((λ z. omega (arith, z)), ((λ z. omega (arith, z)), ((λ z. omega (arith, z)), ((λ z. omega (arith, z)), ((λ z. omega (arith, z)), ((λ z. omega (arith, z)), tt)))))) e refl
+
+  pub section-answered : SectionAnswered sheet c ms
+  unfolding sectionRefusals sheetRefusals sheetFieldRefusals memberTable stateRefusals stateFieldRefusals againstRefusals stepRefusals
+  section-answered =
+      record {
+        order = refl;
+        member-order = λ m. refl;
+        exactly = λ number place. (told-reason number place, reason-told number place);
+        none-moves = beside-number (λ (l : SectionLeft). l .members ≡ ms) (λ n p. refl);
+        no-force = beside-number (λ (l : SectionLeft). l .reply .force ≡ pos 0) (λ n p. refl);
+        no-moment = beside-number (λ (l : SectionLeft). l .reply .moment ≡ pos 0) (λ n p. refl);
+        all-move = without-number (λ (l : SectionLeft). EachAfter (MovedAlone sheet c) ms (l .members))
+            (λ advances none pass. let (passed, sound) = sheet-passes none in moved-alone passed sound ms advances pass);
+        force = without-number (λ (l : SectionLeft). l .reply .force ≡ forceNow (l .members)) (λ advances none pass. sums-now (sheet-passes none .1) ms advances pass .0);
+        moment = without-number (λ (l : SectionLeft). l .reply .moment ≡ momentNow (l .members)) (λ advances none pass. sums-now (sheet-passes none .1) ms advances pass .1);
+        no-4 = no-four;
+      }
