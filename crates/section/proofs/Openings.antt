@@ -1,9 +1,9 @@
 -- What a section's call begins with (SPEC 15.7): a refusal, or room for all its rods.
 use Prim.Native.Nat.{ℕ, _+_, _≤_}
 use mathlib.Core.Path.{_≡_, sym, ap, subst, _∙_}
-use mathlib.Core.Bool.{true, _&&_}
+use mathlib.Core.Bool.{true, _&&_, true≢false}
 use mathlib.Core.List.{List}
-use borrow.Author.Tests.{leb-true}
+use borrow.Author.Tests.{leb-true, ne-eqb}
 use native.Mathlib.Omega.{arith}
 use lib.Dec.{leb}
 use Rattle.refusals.specs.Table.{passes, refused, firstOf}
@@ -18,14 +18,16 @@ use Rattle.section.specs.declared.Movement.{Movement}
 use Rattle.section.specs.declared.Tally.{Tally}
 use Rattle.section.specs.declared.Opening.{Opening}
 use Rattle.section.specs.Sections.{callRight}
-use Rattle.section.specs.Tallies.{ChangeRight, MovementRight, Room, Opened, endedAt, startBy, openRefusals}
+use Rattle.section.specs.Tallies.{ChangeRight, MovementRight, Room, Opened, endedAt, sectionsOwn, startBy, openRefusals}
 
 module _ (sheet : List ℕ) (members : ℕ) (c : Change) (o : Opening) where
   pub opened-refused : {n : ℕ} → firstOf (openRefusals sheet members c) (sheetOf sheet) ≡ refused n → (n ≡ 0 → ⊥) → o .start ≡ endedAt n 0
       → Opened sheet members c o
+  unfolding sectionsOwn
   opened-refused {n} e some is =
       let number = ap (λ (t : Tally). t .number) is in
-      record { start = is ∙ sym (ap startBy e); movement = λ none. absurd (some (sym number ∙ none)); ready = λ none. absurd (some (sym number ∙ none)) }
+      let own : sectionsOwn (o .start) ≡ true = ap sectionsOwn is ∙ rw (ne-eqb n 0 some) in
+      record { start = is ∙ sym (ap startBy e); movement = λ none. absurd (some (sym number ∙ none)); ready = λ goes. absurd (true≢false (sym own ∙ goes)) }
 
   -- The change and the count of a call that is right.
   change-right : callRight members c ≡ true → ChangeRight c × (members ≤ mostRods)
@@ -40,4 +42,4 @@ module _ (sheet : List ℕ) (members : ℕ) (c : Change) (o : Opening) where
       let (changes, few) = change-right right in
       let whole : MovementRight (record { sheet = sheetOf sheet; change = c }) = record { sound = sound; change = changes } in
       let room : Room members (endedAt 0 0) = record { seen = omega (arith, few); force = omega arith; moment = omega arith } in
-      record { start = is ∙ sym (ap startBy e); movement = λ none. movement; ready = λ none. (subst MovementRight (sym movement) whole, subst (Room members) (sym is) room) }
+      record { start = is ∙ sym (ap startBy e); movement = λ none. movement; ready = λ goes. (subst MovementRight (sym movement) whole, subst (Room members) (sym is) room) }

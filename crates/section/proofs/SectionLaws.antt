@@ -1,9 +1,9 @@
 -- The tally over the members is what a section answers, and each member's next is what it is afterwards (SPEC 15.7). Assumes nothing.
 use Prim.Native.Nat.{ℕ, zero, suc, _+_, _*_, _^_, _≤_, _<_}
 use mathlib.Core.Path.{_≡_, refl, sym, ap, ap₂, subst, _∙_}
-use mathlib.Core.Bool.{Bool, true, false, not, _&&_, cond}
+use mathlib.Core.Bool.{Bool, true, false, not, _&&_, cond, true≢false}
 use mathlib.Core.List.{List, [], _∷_, _++_, map}
-use borrow.Author.Tests.{ne-eqb, eq-eqb, eqb-true}
+use borrow.Author.Tests.{ne-eqb, eq-eqb}
 use native.Mathlib.Omega.{arith}
 use lib.Dec.{eqb}
 use lib.IntN.{ℤ, pos, natAbs, _+ℤ_, +ℤ-assoc, +ℤ-idl, +ℤ-idr}
@@ -43,37 +43,37 @@ room-added t m stress n room force moment =
     }
 
 pub ready-step : (x : Movement) (t : Tally) (m : Member) (n : ℕ) → Ready (suc n) x t → Ready n x (tallyOf x t m)
-unfolding tallyOf
-ready-step x t m n ready = by-own (sectionsOwn t)
+unfolding tallyOf sectionsOwn
+ready-step x t m n ready = by-own (sectionsOwn t) refl
   where
-    by-answer : (a : Answer Advance) → memberAnswer (x .sheet) (x .change) m ≡ a → memberRight m ≡ true → t .number ≡ 0 → Ready n x (counted t m a)
-    by-answer (passes a) e right none done =
-        let (whole, room) = ready none in
+    by-answer : (a : Answer Advance) → memberAnswer (x .sheet) (x .change) m ≡ a → memberRight m ≡ true → sectionsOwn t ≡ false → Ready n x (counted t m a)
+    by-answer (passes a) e right goes done =
+        let (whole, room) = ready goes in
         let stress = a .rod .stress .0 in
         let most = next-stress-most (x .sheet) (x .change) m (whole .sound) e in
         let force : natAbs (forceOf m stress) ≤ 10 ^ 14 = omega (arith, force-magnitude m stress right most, force-most m stress right most) in
         let moment : natAbs (momentOf m stress) ≤ 10 ^ 17 = omega (arith, moment-magnitude m stress right most, moment-most m stress right most) in
         (whole, room-added t m stress n room force moment)
-    by-answer (refused number) e right none done =
-        let (whole, room) = ready none in
+    by-answer (refused number) e right goes done =
+        let (whole, room) = ready goes in
         (whole, record { seen = omega (arith, room .seen); force = omega arith; moment = omega arith })
 
-    by-number : (b : Bool) → eqb (t .number) 0 ≡ b → memberRight m ≡ true → Ready n x (cond b (counted t m (memberAnswer (x .sheet) (x .change) m)) t)
-    by-number true e right = by-answer (memberAnswer (x .sheet) (x .change) m) refl right (eqb-true (t .number) 0 e)
-    by-number false e right = fewer x t n ready
+    by-number : (b : Bool) → memberRight m ≡ true → sectionsOwn t ≡ false → Ready n x (cond b (counted t m (memberAnswer (x .sheet) (x .change) m)) t)
+    by-number true right goes = by-answer (memberAnswer (x .sheet) (x .change) m) refl right goes
+    by-number false right goes = fewer x t n ready
 
-    by-right : (b : Bool) → memberRight m ≡ b → Ready n x (cond (not b) (endedAt 14 0) (cond (eqb (t .number) 0) (counted t m (memberAnswer (x .sheet) (x .change) m)) t))
-    by-right true right = by-number (eqb (t .number) 0) refl right
-    by-right false wrong = λ e. absurd (omega (arith, e))
+    by-right : (b : Bool) → memberRight m ≡ b → sectionsOwn t ≡ false → Ready n x (cond (not b) (endedAt 14 0) (cond (eqb (t .number) 0) (counted t m (memberAnswer (x .sheet) (x .change) m)) t))
+    by-right true right goes = by-number (eqb (t .number) 0) right goes
+    by-right false wrong goes = λ e. absurd (true≢false e)
 
-    by-own : (b : Bool) → Ready n x (cond b t (cond (not (memberRight m)) (endedAt 14 0) (cond (eqb (t .number) 0) (counted t m (memberAnswer (x .sheet) (x .change) m)) t)))
-    by-own true = fewer x t n ready
-    by-own false = by-right (memberRight m) refl
+    by-own : (b : Bool) → sectionsOwn t ≡ b → Ready n x (cond b t (cond (not (memberRight m)) (endedAt 14 0) (cond (eqb (t .number) 0) (counted t m (memberAnswer (x .sheet) (x .change) m)) t)))
+    by-own true own = fewer x t n ready
+    by-own false goes = by-right (memberRight m) refl goes
 
 -- Where no number is given in the end, sheet and change were right.
 pub settled-right : (x : Movement) (t : Tally) (ms : List Member) → Ready (length ms) x t → tallyAll x t ms .number ≡ 0 → MovementRight x
-unfolding tallyAll
-settled-right x t [] ready e = ready e .0
+unfolding tallyAll sectionsOwn
+settled-right x t [] ready e = ready (rw (eq-eqb (t .number) 0 e)) .0
 settled-right x t (m ∷ ms) ready e = settled-right x (tallyOf x t m) ms (ready-step x t m (length ms) ready) e
 
 -- ---- The order of the numbers

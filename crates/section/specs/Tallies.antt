@@ -2,7 +2,7 @@
 -- this crate's contracts; definitions only, nothing is assumed. proofs/SectionLaws shows that this is `sectionLeaves`.
 use Prim.Native.Nat.{ℕ, _+_, _*_, _^_, _≤_}
 use mathlib.Core.Path.{_≡_}
-use mathlib.Core.Bool.{Bool, true, not, _&&_, cond}
+use mathlib.Core.Bool.{Bool, true, false, not, _&&_, cond}
 use mathlib.Core.List.{List, [], _∷_, _++_, map}
 use lib.IntN.{ℤ, pos, natAbs, _+ℤ_}
 use lib.Dec.{eqb}
@@ -82,8 +82,9 @@ pub record Room (rods : ℕ) (t : Tally) : Type 0 where
   pub force : natAbs (t .force) ≤ t .seen * 10 ^ 14
   pub moment : natAbs (t .moment) ≤ t .seen * 10 ^ 17
 
+-- SPEC 15.7: what holds of a tally that no number of the section's own has ended.
 abbrev pub Ready : (rods : ℕ) → Movement → Tally → Type 0
-Ready rods x t = t .number ≡ 0 → MovementRight x × Room rods t
+Ready rods x t = sectionsOwn t ≡ false → MovementRight x × Room rods t
 
 -- SPEC 15.7: the lines that are decided before the first member.
 unfoldable pub openRefusals : (sheet : List ℕ) → (members : ℕ) → Change → List Refusal

@@ -12,7 +12,7 @@ use mir.Syntax.{Ty, named, erased, imm, mut, tyInt, tyRef, w8, w64}
 use mir.Val.{Val, vint, vptr, ofZ, hbits}
 use mir.ValLaws.{ofZ-fits}
 use base.Logic.{SProp, ent, emp, via, fst∗, id⊢, exE, snd∗}
-use base.Fml.{Lft, Share, GName, Fml, ftrue, fat, froom, fdies, flft, fobs, fres, fbor}
+use base.Fml.{Lft, Share, Fml, ftrue, fat, froom, fdies, flft, fobs, fres, fbor}
 use prog.Memory.{Memory}
 use prog.Routine.{Routine}
 use prog.Wp.{Heap, Env, WpFn, Tables}

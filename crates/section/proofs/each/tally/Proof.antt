@@ -43,7 +43,7 @@ tried-requires : tie.Need-tried-requires
 tried-requires c κs =
     let right = c .before in
     let s = right .before .before .before .before in
-    (s .pre (c .if3 .left) .0, right-is right)
+    (s .pre (not-own (right .before .before)) .0, right-is right)
 
 -- the member passes
 accepted : (c : tie.After-carried) → let carried = c .carried .given .0 .0 in
@@ -58,14 +58,14 @@ added-requires c κs =
     let carried = c .before .before .before in
     let none = carried .before .before .before in
     let s = none .before .before .before .before .before in
-    let ready = s .pre (none .if3 .left) in
+    let ready = s .pre (not-own (none .before .before .before)) in
     (ready .1, right-is (none .before), next-stress-most (s .args .movement .sheet) (s .args .movement .change) (s .args .member) (ready .0 .sound) (accepted carried))
 
 add-place : tie.Need-add-place
 add-place c =
     let none = c .before .before .before .before .before in
     let s = none .before .before .before .before .before in
-    record { fits = omega (arith, s .pre (none .if3 .left) .1 .seen) }
+    record { fits = omega (arith, s .pre (not-own (none .before .before .before)) .1 .seen) }
 
 returns-4 : tie.Need-returns-4
 unfolding tallyOf

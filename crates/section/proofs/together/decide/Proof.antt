@@ -1,7 +1,7 @@
 -- `section::together::decide` meets its contract: a walk of its MIR, by hand. The slice is looked into once, before the loop, and shut after
 -- it; the loop's state is the tally of the first i members, and `tally` is called at each. Assumes nothing.
-use mathlib.Core.Path.{_≡_, refl, sym, ap, subst, _∙_}
-use Prim.Native.Nat.{ℕ, _+_, _*_, _^_, _<_, _≤_}
+use mathlib.Core.Path.{_≡_, refl, sym, ap, _∙_}
+use Prim.Native.Nat.{ℕ, _+_, _*_, _^_, _<_}
 use mathlib.Core.Bool.{Bool, true, false}
 use mathlib.Core.List.{List, [], _∷_}
 use lib.ListN.{length, getD}
