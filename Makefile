@@ -4,7 +4,7 @@
 test:
 	@sh checks/test.sh
 
-# The archive held against document 01 in Rust, over fractions, and what the C programs say.
+# The archives held against the documents in Rust, over fractions, and what the C programs say.
 checks:
 	sh checks/run.sh
 
@@ -13,9 +13,10 @@ demo:
 	@sh checks/prove.sh check walk_log
 	target/bin/walk_log < examples/third_row.log
 
-# Nanoseconds a pair, beside plain Rust.
+# Nanoseconds a pair and a rod of a section, beside plain Rust.
 bench:
 	@sh checks/prove.sh staticlib tie_rod_c
+	@sh checks/prove.sh staticlib section_c
 	cd checks && CARGO_TARGET_DIR=$(CURDIR)/target/cargo cargo run -q --offline --profile speed --bin bench
 
 # The quick loop: proves what has changed since the last time.

@@ -1,5 +1,6 @@
-//! Links the library's archive: `target/staticlib/libtie_rod_c.a` of this
-//! repository and no other, whatever the environment says.
+//! Links the library's archives: `target/staticlib/libtie_rod_c.a` and
+//! `libsection_c.a` of this repository and no others, whatever the environment
+//! says.
 
 use std::env;
 use std::path::Path;
@@ -9,14 +10,16 @@ fn main() {
         return;
     }
     let folder = Path::new(&env::var_os("CARGO_MANIFEST_DIR").unwrap()).join("../target/staticlib");
-    let archive = folder.join("libtie_rod_c.a");
-    println!("cargo:rerun-if-changed={}", archive.display());
-    if !archive.is_file() {
-        panic!(
-            "{} isn't there: `rt staticlib tie_rod_c` writes it; --no-default-features does without",
-            archive.display()
-        );
-    }
     println!("cargo:rustc-link-search=native={}", folder.display());
-    println!("cargo:rustc-link-lib=static=tie_rod_c");
+    for name in ["tie_rod_c", "section_c"] {
+        let archive = folder.join(format!("lib{name}.a"));
+        println!("cargo:rerun-if-changed={}", archive.display());
+        if !archive.is_file() {
+            panic!(
+                "{} isn't there: `rt staticlib {name}` writes it; --no-default-features does without",
+                archive.display()
+            );
+        }
+        println!("cargo:rustc-link-lib=static={name}");
+    }
 }

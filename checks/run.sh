@@ -1,7 +1,7 @@
 #!/bin/sh
 # The evidence beside the proofs: holds the papers to the tree, builds the
-# archive, looks at what it exports and needs, runs the C programs and the log
-# program on every sample log, and holds the archive against document 01's
+# archives, looks at what they export and need, runs the C programs and the log
+# program on every sample log, and holds the archives against the documents'
 # rules over fractions. Few lines where all is well; otherwise what failed, and
 # another exit status than 0.
 set -eu
@@ -23,32 +23,36 @@ quiet() {
 quiet sh checks/papers
 
 sh checks/prove.sh staticlib tie_rod_c
-archive=target/staticlib/libtie_rod_c.a
+sh checks/prove.sh staticlib section_c
+archives="target/staticlib/libtie_rod_c.a target/staticlib/libsection_c.a"
 
-# What the archive exports is what the header declares: its functions, but the
+# What the archives export is what the header declares: its functions, but the
 # static ones, which are compiled where they are included.
 sed -n '/^static/d; s/^[A-Za-z][A-Za-z0-9_ *]*[ *]\(tie_rod_[a-z0-9_]*\)(.*/\1/p' include/tie_rod.h | sort >"$out/declared"
-nm -g --defined-only "$archive" | sed -n 's/^[0-9a-f][0-9a-f]* [A-Za-z] //p' | sort >"$out/exported"
+nm -g --defined-only $archives | sed -n 's/^[0-9a-f][0-9a-f]* [A-Za-z] //p' | sort >"$out/exported"
 if ! diff "$out/declared" "$out/exported" >"$out/log"; then
-    echo "failed: the functions of include/tie_rod.h (<) aren't what the archive exports (>):"
+    echo "failed: the functions of include/tie_rod.h (<) aren't what the archives export (>):"
     cat "$out/log"
     exit 1
 fi
 
-# What the archive's members need and none of them exports.
-nm -u "$archive" | sed -n 's/^ *[A-Za-z] //p' | sort -u >"$out/needed"
+# What the archives' members need and none of them exports.
+nm -u $archives | sed -n 's/^ *[A-Za-z] //p' | sort -u >"$out/needed"
 others=$(comm -23 "$out/needed" "$out/exported" | grep -vxE 'memcpy|memmove|memset|memcmp' || true)
 if [ -n "$others" ]; then
-    echo "failed: the archive needs more than memcpy, memmove, memset and memcmp:"
+    echo "failed: the archives need more than memcpy, memmove, memset and memcmp:"
     echo "$others"
     exit 1
 fi
 
 compile="${CC:-cc} -O2 -Wall -Wextra -Werror -Iinclude"
-quiet $compile -std=c99 -pedantic -o "$out/firmware" examples/firmware.c "$archive"
+quiet $compile -std=c99 -pedantic -o "$out/firmware" examples/firmware.c target/staticlib/libtie_rod_c.a
 "$out/firmware" >"$out/firmware.stdout"
 quiet diff examples/firmware.stdout "$out/firmware.stdout"
-quiet $compile -o "$out/stack" checks/stack.c "$archive"
+quiet $compile -std=c11 -pedantic -o "$out/plate" examples/plate.c $archives
+"$out/plate" >"$out/plate.stdout"
+quiet diff examples/plate.stdout "$out/plate.stdout"
+quiet $compile -o "$out/stack" checks/stack.c $archives
 quiet "$out/stack"
 cat "$out/log"
 
@@ -81,4 +85,4 @@ if [ "$passed" -eq 0 ] || [ "$passed" -ne "$written" ]; then
     echo "failed: $passed Rust tests passed, and checks/ has $written"
     exit 1
 fi
-echo "checks: $passed tests passed in $(($(date +%s) - start)) s; firmware prints as stored; the archive exports the header's functions and needs only mem*"
+echo "checks: $passed tests passed in $(($(date +%s) - start)) s; firmware and plate print as stored; the archives export the header's functions and need only mem*"

@@ -1,7 +1,8 @@
 /*
  * The library's peak stack: each call runs on a stack of its own that was
  * painted before, and the paint that is left tells how deep it went. Fails
- * above 2 KiB. For Linux on x86-64 with glibc.
+ * where a call goes deeper than is promised of it. For Linux on x86-64 with
+ * glibc.
  */
 #include "tie_rod.h"
 
@@ -11,7 +12,9 @@
 #include <ucontext.h>
 
 #define STACK_BYTES (256 * 1024)
+/* What README.md promises: of every call but a section, and of that. */
 #define MOST_BYTES (2 * 1024)
+#define MOST_SECTION_BYTES (3 * 1024)
 
 static uint8_t stack[STACK_BYTES];
 static uint8_t sheet[TIE_ROD_SHEET_BYTES_MAX];
@@ -20,6 +23,7 @@ static uint8_t state[TIE_ROD_STATE_BYTES];
 static uint8_t pairs[TIE_ROD_PAIRS_MAX * TIE_ROD_PAIR_BYTES];
 static uint8_t rows[TIE_ROD_PAIRS_MAX * TIE_ROD_ROW_BYTES];
 static uint8_t next[TIE_ROD_STATE_BYTES];
+static struct tie_rod_member members[TIE_ROD_RODS_MAX];
 static uint64_t answer;
 
 static void nothing(void) {}
@@ -43,6 +47,16 @@ static void forecast(void)
 static void unused(void)
 {
     answer = tie_rod_unused(sheet, sheet_len, state);
+}
+
+/* Rods on both sides of the plate, pulled and pushed past their limits by turns, while the plate warms. */
+static void section(void)
+{
+    static int64_t bend = -20000, temperature = 201;
+    int64_t force, moment;
+    bend = -bend;
+    temperature = temperature == 500 ? 201 : temperature + 1;
+    answer = tie_rod_section(sheet, sheet_len, members, TIE_ROD_RODS_MAX, bend / 20, bend, temperature, &force, &moment);
 }
 
 /* The bytes of the painted stack that a call wrote, from the deepest one on. */
@@ -125,41 +139,68 @@ static void write_pairs(void)
     }
 }
 
+/* Unused rods of the sheet, side by side from one edge of the plate to the other. */
+static void write_members(void)
+{
+    for (int i = 0; i < TIE_ROD_RODS_MAX; i++) {
+        members[i].area = TIE_ROD_AREA_MAX;
+        members[i].offset = TIE_ROD_OFFSET_MAX - 2 * TIE_ROD_OFFSET_MAX * i / (TIE_ROD_RODS_MAX - 1);
+        if (tie_rod_unused(sheet, sheet_len, members[i].state) != 0)
+            abort();
+    }
+}
+
+static struct {
+    const char *name;
+    void (*call)(void);
+    size_t promised;
+    size_t most;
+} calls[] = {
+    {"unused rod", unused, MOST_BYTES, 0},
+    {"forecast", forecast, MOST_BYTES, 0},
+    {"single pair", pair, MOST_BYTES, 0},
+    {"run of 4,096 pairs", run, MOST_BYTES, 0},
+    {"section of 32 rods", section, MOST_SECTION_BYTES, 0},
+};
+
+/* Measures every call on the sheet; 0 where one is refused. */
+static int measure(int law)
+{
+    for (size_t i = 0; i < sizeof calls / sizeof calls[0]; i++) {
+        /* Once beforehand, so that the dynamic linker's own frames aren't counted. */
+        calls[i].call();
+        size_t bytes = depth(calls[i].call);
+        if (tie_rod_number(answer) != TIE_ROD_ACCEPTED) {
+            fprintf(stderr, "%s, law %d: refused with %u\n", calls[i].name, law, tie_rod_number(answer));
+            return 0;
+        }
+        if (bytes > calls[i].most)
+            calls[i].most = bytes;
+    }
+    return 1;
+}
+
 int main(void)
 {
-    static const struct {
-        const char *name;
-        void (*call)(void);
-    } calls[] = {{"unused rod", unused}, {"forecast", forecast}, {"single pair", pair}, {"run of 4,096 pairs", run}};
-    size_t most = 0, run_most = 0;
+    int passes = 1;
     write_pairs();
     for (int sheets = 0; sheets < 8; sheets++) {
         int law = sheets / 2;
         write_sheet(law, sheets % 2 ? TIE_ROD_POINTS_MAX : 0);
-        for (size_t i = 0; i < sizeof calls / sizeof calls[0]; i++) {
-            /* Once beforehand, so that the dynamic linker's own frames aren't counted. */
-            calls[i].call();
-            size_t bytes = depth(calls[i].call);
-            if (tie_rod_number(answer) != TIE_ROD_ACCEPTED) {
-                fprintf(stderr, "%s, law %d: refused with %u\n", calls[i].name, law, tie_rod_number(answer));
-                return 1;
-            }
-            if (bytes > most)
-                most = bytes;
-            if (calls[i].call == run && bytes > run_most)
-                run_most = bytes;
-        }
+        write_members();
+        if (!measure(law))
+            return 1;
     }
     size_t empty = depth(nothing);
-    if (run_most <= empty) {
-        fprintf(stderr, "the paint shows no call\n");
-        return 1;
+    printf("peak stack in bytes:");
+    for (size_t i = 0; i < sizeof calls / sizeof calls[0]; i++) {
+        printf(" %s %zu,", calls[i].name, calls[i].most);
+        if (calls[i].most <= empty || calls[i].most > calls[i].promised)
+            passes = 0;
     }
-    printf("peak stack: %zu bytes for a run of 4,096 pairs, %zu for any call (%zu of them without a call)\n", run_most,
-           most, empty);
-    if (most > MOST_BYTES) {
-        fprintf(stderr, "that is more than %d bytes\n", MOST_BYTES);
-        return 1;
-    }
-    return 0;
+    printf(" no call %zu\n", empty);
+    if (!passes)
+        fprintf(stderr, "a call shows no more than no call, or more than %d bytes, a section more than %d\n", MOST_BYTES,
+                MOST_SECTION_BYTES);
+    return passes ? 0 : 1;
 }

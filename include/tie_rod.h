@@ -22,6 +22,8 @@
  *   stress      10^-9 MPa, the grain, a thousandth of a pascal
  *   moduli      MPa
  *   temperature tenths of a degree Celsius
+ *   of a section (SPEC 15): area mm^2, offset mm, curvature nano per mm,
+ *   force 10^-3 N, moment 10^-3 N mm
  *
  * Sheet (SPEC 3.7, 3.8): 14 bytes, then 6 bytes a segment, tension first, then
  * 4 bytes a point of the expansion.
@@ -97,10 +99,17 @@ extern "C" {
 #define TIE_ROD_POINTS_MAX 8
 /* The most pairs that one run takes. */
 #define TIE_ROD_PAIRS_MAX 4096
+/* The most rods that one section has, and how far its numbers go. */
+#define TIE_ROD_RODS_MAX 32
+#define TIE_ROD_AREA_MAX 1000000
+#define TIE_ROD_OFFSET_MAX 1000
+#define TIE_ROD_MEAN_MAX 200000000
+#define TIE_ROD_CURVATURE_MAX 1000000
 
 /*
  * The numbers (SPEC 8.2). A call answers the first of them that applies, in this
  * order: 1, 2, 3, 13, 4, 5, 6, then 7 and 12, then pair by pair 8, 9, 11 and 10.
+ * A section: 1, 2, 3, 13, then 14, then rod by rod 5, 6, 8, 9, 11 and 10.
  */
 enum tie_rod_numbers {
     TIE_ROD_ACCEPTED = 0,
@@ -139,7 +148,12 @@ enum tie_rod_numbers {
                                  it, and that none can is not proved yet (SPEC 8.7) */
 
     /* For the caller. */
-    TIE_ROD_BUFFER = 12       /* rows below 16 bytes a pair, or next not 37 bytes */
+    TIE_ROD_BUFFER = 12,      /* rows below 16 bytes a pair, or next not 37 bytes */
+
+    /* For whoever describes the plate. */
+    TIE_ROD_SECTION_FIELD = 14 /* a section's count isn't 1 to 32, or one of its areas,
+                                 offsets, the mean strain or the curvature isn't in
+                                 its range */
 };
 
 /*
@@ -195,13 +209,80 @@ uint64_t tie_rod_forecast(const uint8_t *sheet, size_t sheet_len,
 uint64_t tie_rod_unused(const uint8_t *sheet, size_t sheet_len,
                         uint8_t state[TIE_ROD_STATE_BYTES]);
 
+/*
+ * A rod of a section: 56 bytes, the state from byte 16 on. What C leaves free
+ * behind the state means nothing.
+ */
+struct tie_rod_member {
+    uint64_t area;  /* 1 to 1,000,000 mm^2 */
+    int64_t offset; /* -1,000 to 1,000 mm from the line where the mean strain holds */
+    uint8_t state[TIE_ROD_STATE_BYTES];
+};
+
+/* No #pragma or option has packed the struct or spread it. */
+#define TIE_ROD_MEMBER_FITS \
+    (offsetof(struct tie_rod_member, area) == 0 && offsetof(struct tie_rod_member, offset) == 8 \
+     && offsetof(struct tie_rod_member, state) == 16 && sizeof(struct tie_rod_member) == 56)
+#if defined(__cplusplus) && __cplusplus >= 201103L
+static_assert(TIE_ROD_MEMBER_FITS, "struct tie_rod_member lies otherwise than the library's");
+#elif defined(__STDC_VERSION__) && __STDC_VERSION__ >= 201112L
+_Static_assert(TIE_ROD_MEMBER_FITS, "struct tie_rod_member lies otherwise than the library's");
+#endif
+
+/*
+ * A section (SPEC 15): up to 32 rods of one sheet that are tied to one plate.
+ * The plate's mean strain changes by `mean` nano, its curvature by `curvature`
+ * nano per mm, and `temperature` is the new one of all rods. So every rod is
+ * given the pair (mean + curvature * offset, temperature), and either all of
+ * them move or none does.
+ *
+ *   mean          within 200,000,000 nano
+ *   curvature     within 1,000,000 nano per mm
+ *   temperature   -2,000 to 20,000 tenths; all 64 bits count
+ *
+ * The answer is number + 256 * place, the place being that of the refused rod,
+ * from 1, and 0 where the number isn't a rod's own.
+ *
+ *   number                  place      what it says
+ *   0                       0          all rods have moved
+ *   1, 2, 3, 13             0          the sheet is refused
+ *   14                      0          the count, an area or an offset of any
+ *                                      member, the mean or the curvature
+ *   5, 6, 8, 9, 10, 11      1 to 32    the lowest refused rod: what tie_rod_pair
+ *                                      answers for its state and its pair; 8 for
+ *                                      the temperature too, or for a strain
+ *                                      change beyond 200,000,000
+ *
+ * `force` and `moment` are written on every answer, and are 0 on a refusal. On
+ * 0 they are sums over the rods: of the stress behind the call, cut toward zero
+ * to 10^-3 MPa, times the area, in 10^-3 N; and of the same products times the
+ * offset, in 10^-3 N mm. Tension counts as positive. Both are exact: a force is
+ * within 3.2 * 10^15, a moment within 3.2 * 10^18.
+ *
+ * On 0 each member's state is the next one, as tie_rod_pair would have left it,
+ * and area and offset are what they were. On a refusal no byte of any member has
+ * changed. So the members are the card, and nothing is left to copy:
+ * tie_rod_has_next and tie_rod_rows are not for this answer.
+ *
+ * `members` is an array as C lays it out, and `count` says how many it has,
+ * which must be true; NULL with count 0 is fine, and gets 14. Sheet, members,
+ * `force` and `moment` must not overlap; the last two are never NULL.
+ */
+uint64_t tie_rod_section(const uint8_t *sheet, size_t sheet_len,
+                         struct tie_rod_member *members, size_t count,
+                         int64_t mean, int64_t curvature, int64_t temperature,
+                         int64_t *force, int64_t *moment);
+
 /* The number of an answer of any of the calls: 0 is accepted. */
 static inline unsigned tie_rod_number(uint64_t answer)
 {
     return (unsigned)(answer & 255u);
 }
 
-/* The refused pair's place, from 1, in an answer of tie_rod_run or tie_rod_pair; else 0. */
+/*
+ * The refused pair's place, from 1, in an answer of tie_rod_run or tie_rod_pair,
+ * or the refused rod's in one of tie_rod_section; else 0.
+ */
 static inline size_t tie_rod_place(uint64_t answer)
 {
     return (size_t)(answer >> 8);

@@ -5,6 +5,7 @@
 
 pub mod bar;
 pub mod big;
+pub mod bundle;
 pub mod call;
 pub mod fraction;
 pub mod generate;
@@ -15,6 +16,7 @@ pub mod log;
 pub mod plain;
 pub mod random;
 pub mod rules;
+pub mod section;
 pub mod steer;
 
 use call::{Call, Outcome};

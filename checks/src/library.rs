@@ -2,6 +2,7 @@
 //! between guard bytes, and what is only read is lent as it is.
 
 use crate::call::{Call, Entry, Outcome};
+use crate::section::{self, Member, UNWRITTEN};
 
 extern "C" {
     fn tie_rod_run(
@@ -30,6 +31,17 @@ extern "C" {
     ) -> u64;
     fn tie_rod_forecast(sheet: *const u8, sheet_len: usize, state: *const u8, state_len: usize) -> u64;
     fn tie_rod_unused(sheet: *const u8, sheet_len: usize, state: *mut u8) -> u64;
+    fn tie_rod_section(
+        sheet: *const u8,
+        sheet_len: usize,
+        members: *mut Member,
+        count: usize,
+        mean: i64,
+        curvature: i64,
+        temperature: i64,
+        force: *mut i64,
+        moment: *mut i64,
+    ) -> u64;
 }
 
 pub fn run(sheet: &[u8], state: &[u8], pairs: &[u8], rows: &mut [u8], next: &mut [u8]) -> u64 {
@@ -76,6 +88,20 @@ pub fn forecast(sheet: &[u8], state: &[u8]) -> u64 {
 pub fn unused(sheet: &[u8], state: &mut [u8; 37]) -> u64 {
     // SAFETY: as for `run`; the state has the 37 bytes that the call writes.
     unsafe { tie_rod_unused(sheet.as_ptr(), sheet.len(), state.as_mut_ptr()) }
+}
+
+pub fn section(
+    sheet: &[u8],
+    members: &mut [Member],
+    mean: i64,
+    curvature: i64,
+    temperature: i64,
+    force: &mut i64,
+    moment: &mut i64,
+) -> u64 {
+    let (rods, count) = (members.as_mut_ptr(), members.len());
+    // SAFETY: as for `run`; a member lies as the C struct does.
+    unsafe { tie_rod_section(sheet.as_ptr(), sheet.len(), rods, count, mean, curvature, temperature, force, moment) }
 }
 
 const GUARD: usize = 64;
@@ -162,4 +188,52 @@ pub fn call(call: &Call) -> Outcome {
         assert!(buffer.bytes() == &given[..], "a byte that is only read was written\n{call}");
     }
     Outcome { answer, rows: rows.bytes().to_vec(), next: next.bytes().to_vec() }
+}
+
+/// Members on either side of those that are lent.
+const GUARD_MEMBERS: usize = 2;
+
+fn guard_member(at: usize) -> Member {
+    let byte = guard_byte(at);
+    let number = u64::from_ne_bytes([byte; 8]);
+    Member { area: number, offset: number as i64, state: [byte; 37], padding: [byte; 3] }
+}
+
+/// The section by the library. Panics, with the bytes, if it writes anything but the lent members, force and moment.
+/// Without members their pointer is sometimes NULL.
+pub fn section_call(call: &section::Call) -> section::Outcome {
+    let mut sheet = Guarded::new(&call.sheet, call.temperature as usize);
+    let guards = |at| (at..at + GUARD_MEMBERS).map(guard_member).collect::<Vec<Member>>();
+    let (before, behind) = (guards(0), guards(GUARD_MEMBERS));
+    let mut members = [&before[..], &call.members, &behind].concat();
+    let end = GUARD_MEMBERS + call.members.len();
+    let lent = &mut members[GUARD_MEMBERS..end];
+    let none = lent.is_empty() && call.sheet.len().is_multiple_of(2);
+    let pointer = if none { std::ptr::null_mut() } else { lent.as_mut_ptr() };
+    let mut sums = [UNWRITTEN; 5];
+    let [_, force, _, moment, _] = &mut sums;
+    let (mean, curvature, temperature) = (call.mean, call.curvature, call.temperature);
+    // SAFETY: each buffer is memory of its own, as long as the call is told.
+    let answer = unsafe {
+        tie_rod_section(
+            sheet.pointer(),
+            sheet.len,
+            pointer,
+            call.members.len(),
+            mean,
+            curvature,
+            temperature,
+            force,
+            moment,
+        )
+    };
+    assert!(
+        sheet.untouched_around() && sheet.bytes() == call.sheet,
+        "the sheet or a byte around it was written\n{call}"
+    );
+    let guarded = members[..GUARD_MEMBERS] == before && members[end..] == behind;
+    assert!(guarded, "a byte of a member that isn't lent was written\n{call}");
+    let [a, force, b, moment, c] = sums;
+    assert!([a, b, c] == [UNWRITTEN; 3], "a byte beside force and moment was written\n{call}");
+    section::Outcome { answer, force, moment, members: members[GUARD_MEMBERS..end].to_vec() }
 }

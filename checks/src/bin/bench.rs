@@ -1,12 +1,15 @@
 //! The proved library through its C interface against the quick version in
 //! plain 64-bit Rust, on the same bytes: nanoseconds a pair, and the ratio
 //! plain / proved, above 1 where the proved one is faster; and what points of
-//! the expansion cost, proved time with them / proved time without.
+//! the expansion cost, proved time with them / proved time without. Then a
+//! section of 32 rods beside the same rods by a single pair each: nanoseconds a
+//! rod, and the ratio single pairs / section.
 
 use checks::generate::{self, sheet_bytes};
 use checks::layout;
 use checks::log::with_points;
 use checks::random::Random;
+use checks::section::{Member, RODS};
 use checks::{library, plain};
 use std::hint::black_box;
 use std::time::Instant;
@@ -138,6 +141,7 @@ fn main() {
             }
         }
     }
+    print_sections(&only);
 }
 
 /// The times of the two versions; where the sheet has points, with the proved time without them.
@@ -152,4 +156,139 @@ fn flows(sheet: &[u8], pairs: &[u8]) -> i64 {
     plain::run(sheet, &generate::unused_state(sheet), pairs, &mut rows, &mut next);
     let [.., k] = layout::read(&layout::STATE, &next);
     100 * k / PAIRS as i64
+}
+
+// ---- sections ----
+
+const MOVES: usize = PAIRS / RODS;
+
+/// What the plate does in a call: change of mean strain and of curvature, and the new temperature.
+type Move = [i64; 3];
+
+type Section = fn(&[u8], &mut [Member], i64, i64, i64, &mut i64, &mut i64) -> u64;
+
+/// Unused rods side by side, some mm apart.
+fn bundle(sheet: &[u8]) -> Vec<Member> {
+    let state = generate::unused_state(sheet).try_into().unwrap();
+    let member = |i| Member { area: 700 + 10 * i as u64, offset: 10 * i as i64 - 155, state, padding: [0; 3] };
+    (0..RODS).map(member).collect()
+}
+
+/// Mean strain and curvature cycle in even steps, one a quarter behind the other, while the plate warms and cools.
+fn plate_cycles() -> Vec<Move> {
+    let wave = |i: i64| if i % 64 < 32 { i % 64 - 16 } else { 48 - i % 64 };
+    let (mut mean, mut curvature) = (0, 0);
+    let step = |i: i64| {
+        let wanted = (200_000 * wave(i), 1_000 * wave(i + 16));
+        let step = [wanted.0 - mean, wanted.1 - curvature, 200 + (i / 2) % 64];
+        (mean, curvature) = wanted;
+        step
+    };
+    (0..MOVES as i64).map(step).collect()
+}
+
+/// Moves that no rod can foretell, each accepted.
+fn plate_mixed(sheet: &[u8]) -> Vec<Move> {
+    let mut random = Random::new(2);
+    let mut members = bundle(sheet);
+    let mut moves = Vec::new();
+    while moves.len() < MOVES {
+        let [mean, curvature] = [random.range(-4_000_000, 4_000_000), random.range(-20_000, 20_000)];
+        let temperature = 200 + random.range(0, 50);
+        if plain::section(sheet, &mut members, mean, curvature, temperature, &mut 0, &mut 0) == 0 {
+            moves.push([mean, curvature, temperature]);
+        }
+    }
+    moves
+}
+
+/// The moves by sections, and where the rods are then.
+fn by_sections(section: Section, sheet: &[u8], members: &[Member], moves: &[Move]) -> Vec<[u8; 37]> {
+    let mut members = members.to_vec();
+    let (mut force, mut moment) = (0, 0);
+    for &[mean, curvature, temperature] in moves {
+        let (sheet, rods) = (black_box(sheet), black_box(&mut members[..]));
+        assert_eq!(section(sheet, rods, mean, curvature, temperature, &mut force, &mut moment), 0);
+    }
+    black_box((force, moment));
+    members.iter().map(|member| member.state).collect()
+}
+
+/// The pairs that the moves are to each rod.
+fn pairs_of(members: &[Member], moves: &[Move]) -> Vec<Vec<u8>> {
+    let pair = |mean: i64, curvature: i64, temperature: i64, member: &Member| {
+        layout::write(&layout::PAIR, [0, mean + curvature * member.offset, temperature])
+    };
+    moves.iter().flat_map(|&[mean, curvature, t]| members.iter().map(move |m| pair(mean, curvature, t, m))).collect()
+}
+
+/// The same by single pairs, which are written already: a call for each rod.
+fn by_pairs(pair: Carry, sheet: &[u8], members: &[Member], pairs: &[Vec<u8>]) -> Vec<[u8; 37]> {
+    let mut states: Vec<[u8; 37]> = members.iter().map(|member| member.state).collect();
+    let (mut row, mut next) = ([0; 16], [0; 37]);
+    for pairs in pairs.chunks(RODS) {
+        for (bytes, state) in pairs.iter().zip(&mut states) {
+            assert_eq!(pair(black_box(sheet), black_box(&state[..]), black_box(bytes), &mut row, &mut next), 0);
+            *state = next;
+        }
+    }
+    black_box(row);
+    states
+}
+
+/// The least nanoseconds a rod: sections and single pairs, proved, and then plain; taken in turns.
+fn measure_sections(sheet: &[u8], moves: &[Move]) -> [f64; 4] {
+    let members = bundle(sheet);
+    let pairs = pairs_of(&members, moves);
+    let left = by_sections(plain::section, sheet, &members, moves);
+    let mut least = [f64::INFINITY; 4];
+    for _ in 0..ROUNDS {
+        for (which, least) in least.iter_mut().enumerate() {
+            let start = Instant::now();
+            for _ in 0..RUNS_A_ROUND {
+                let states = match which {
+                    0 => by_sections(black_box(library::section), sheet, &members, moves),
+                    1 => by_pairs(black_box(library::pair), sheet, &members, &pairs),
+                    2 => by_sections(black_box(plain::section), sheet, &members, moves),
+                    _ => by_pairs(black_box(plain::pair), sheet, &members, &pairs),
+                };
+                assert!(states == left, "the versions leave different states");
+            }
+            *least = least.min(start.elapsed().as_nanos() as f64 / (RUNS_A_ROUND * RODS * MOVES) as f64);
+        }
+    }
+    least
+}
+
+/// The lines about sections that hold the text.
+fn print_sections(only: &str) {
+    println!();
+    println!("sections of {RODS} rods, {MOVES} calls, nanoseconds a rod, the least of {ROUNDS} rounds");
+    println!(
+        "pairs: the same rods by single pairs, a call for each; ratio pairs / section, above 1 where it costs less"
+    );
+    println!("last: plain section / proved section");
+    let [flows, proved, plain, pairs, ratio] = ["flows", "proved", "plain", "pairs", "ratio"];
+    println!("{:50} {flows:>6} {proved:>8} {pairs:>8} {ratio:>6} {plain:>8} {pairs:>8} {ratio:>6}   last", "");
+    for (sheet_name, sheet) in &sheets() {
+        let pointed = with_points(sheet.clone(), &POINTS);
+        for (points, sheet) in [("", sheet), ("8 points, ", &pointed)] {
+            for (input, moves) in [("cycles", plate_cycles()), ("mixed", plate_mixed(sheet))] {
+                let label = format!("section, {sheet_name}, {points}{input}");
+                if label.contains(only) {
+                    print_section(&label, sheet, &moves);
+                }
+            }
+        }
+    }
+}
+
+fn print_section(label: &str, sheet: &[u8], moves: &[Move]) {
+    let [proved, pairs, plain, plain_pairs] = measure_sections(sheet, moves);
+    let states = by_sections(plain::section, sheet, &bundle(sheet), moves);
+    let yielded: i64 = states.iter().map(|state| layout::read(&layout::STATE, state)[9]).sum();
+    let flows = 100 * yielded / (RODS * MOVES) as i64;
+    let (ratio, plain_ratio, last) = (pairs / proved, plain_pairs / plain, plain / proved);
+    let of_proved = format!("{proved:8.2} {pairs:8.2} {ratio:6.2}");
+    println!("{label:50} {flows:>4} % {of_proved} {plain:8.2} {plain_pairs:8.2} {plain_ratio:6.2} {last:6.2}");
 }

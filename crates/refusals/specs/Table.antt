@@ -1,6 +1,6 @@
 -- Tables of refusals, and which of their lines is answered (SPEC 8.1), cited wherever something can be refused; definitions only,
 -- nothing is assumed.
-use Prim.Native.Nat.{ℕ}
+use Prim.Native.Nat.{ℕ, _+_, _*_}
 use mathlib.Core.Path.{_≡_}
 use mathlib.Core.Bool.{Bool, true, false, cond}
 use mathlib.Core.List.{List, [], _∷_, _++_}
@@ -24,6 +24,10 @@ pub data Answer (A : Type 0) : Type 0 where
 -- SPEC 8.8: an answer told by its number, where 0 says that the value passes.
 abbrev pub numbered : {A : Type 0} → (number : ℕ) → A → Answer A
 numbered number value = cond (eqb number 0) (passes value) (refused number)
+
+-- SPEC 9.10: a number and a place as one number.
+abbrev pub inOneNumber : (number place : ℕ) → ℕ
+inOneNumber number place = number + 256 * place
 
 -- SPEC 8.1: the number of the topmost line that applies; where there is none, the value passes.
 unfoldable pub firstOf : {A : Type 0} → List Refusal → A → Answer A

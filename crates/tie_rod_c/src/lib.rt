@@ -1,15 +1,13 @@
 // The entries as C calls them (SPEC 9.10): each is thin above the entry of its name.
-use section::Member;
-use section::SectionReply;
 use tie_rod::Reply;
 use tie_rod::entry;
 use tie_rod::entry::ForecastRead;
 ghost use mathlib.Core.Path.{_≡_};
 ghost use Prim.Native.Nat.{_≤_, _<_};
-ghost use Rattle.ranges.specs.Ranges.{mostPairs, mostRods};
-ghost use Rattle.section.specs.Sections.{changeOf, sectionLeaves};
+ghost use Rattle.refusals.specs.Table.{inOneNumber};
+ghost use Rattle.ranges.specs.Ranges.{mostPairs};
 ghost use Rattle.tie_rod.specs.Calls.{answerNumber, call, callLeaves, forecastAnswer, run, single, unusedAnswer, unusedLeft};
-ghost use Rattle.tie_rod_c.specs.Answers.{forecastInOneNumber, inOneNumber, sectionSeen, sectionSeenOf, seen, seenOf};
+ghost use Rattle.tie_rod_c.specs.Answers.{forecastInOneNumber, seen, seenOf};
 
 // The answer of a call as one number.
 fn pack(reply: Reply) -> u64
@@ -66,31 +64,4 @@ pub extern "C" fn tie_rod_unused(sheet: &[u8], state: &mut [u8; 37]) -> u64
     ensures state { λ _. ⌜ now (state .exit) ≡ unusedLeft (unusedAnswer (now (sheet .entry))) ⌝ }
 {
     entry::unused(sheet, state)
-}
-
-// The answer of a section as one number.
-fn pack_section(reply: SectionReply) -> u64
-    requires { ⌜ (reply .number < 256) × (reply .place ≤ mostRods) ⌝ }
-    ensures { λ r. ⌜ r ≡ inOneNumber (reply .number) (reply .place) ⌝ }
-{
-    reply.number + 256 * reply.place
-}
-
-// The rods of a section together (SPEC 15).
-#[no_mangle]
-pub extern "C" fn tie_rod_section(
-    sheet: &[u8],
-    members: &mut [Member],
-    mean: i64,
-    curvature: i64,
-    temperature: i64,
-    force: &mut i64,
-    moment: &mut i64,
-) -> u64
-    ensures { λ r. ⌜ sectionSeen r (now (force .exit)) (now (moment .exit)) (now (members .exit)) ≡ sectionSeenOf (sectionLeaves (now (sheet .entry)) (changeOf mean curvature temperature) (now (members .entry))) ⌝ }
-{
-    let reply = section::entry::section(sheet, members, mean, curvature, temperature);
-    *force = reply.force;
-    *moment = reply.moment;
-    pack_section(reply)
 }

@@ -37,7 +37,7 @@ unfolding tallyOf
 returns-3 c =
     let right = c .before in
     let s = right .before .before .before .before in
-    simp (not-own (right .before .before), right-is right, ne-eqb (s .args .tally .number) 0 (c .if3 .taken))
+    simp (not-own (right .before .before), right-is right, ne-eqb (s .args .tally .number) 0 (λ z. omega (arith, z, c .if3 .taken)))
 
 tried-requires : tie.Need-tried-requires
 tried-requires c κs =
@@ -74,7 +74,7 @@ returns-4 c =
     let none = carried .before .before .before in
     let right = none .before in
     let s = right .before .before .before .before in
-    c .added .ensures ∙ simp (not-own (right .before .before), right-is right, eq-eqb (s .args .tally .number) 0 (none .if3 .left), accepted carried)
+    c .added .ensures ∙ simp (not-own (right .before .before), right-is right, eq-eqb (s .args .tally .number) 0 (omega (arith, none .if3 .left)), accepted carried)
 
 returns-5 : tie.Need-returns-5
 unfolding tallyOf
@@ -85,7 +85,7 @@ returns-5 c =
     let right = none .before in
     let s = right .before .before .before .before in
     c .ended2 .ensures
-    ∙ simp (not-own (right .before .before), right-is right, eq-eqb (s .args .tally .number) 0 (none .if3 .left), tried-refused (s .args .movement .sheet) (answer s) (ap triedMeaning (sym (refusal .refusal .given .1)) ∙ tried .tried .ensures))
+    ∙ simp (not-own (right .before .before), right-is right, eq-eqb (s .args .tally .number) 0 (omega (arith, none .if3 .left)), tried-refused (s .args .movement .sheet) (answer s) (ap triedMeaning (sym (refusal .refusal .given .1)) ∙ tried .tried .ensures))
 
 pub tally-spec : {M : Type 1} → statement M
 tally-spec =

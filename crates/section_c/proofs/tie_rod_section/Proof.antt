@@ -1,5 +1,5 @@
--- `tie_rod_c::tie_rod_section` meets its contract: a walk of its MIR, by hand. The sheet and the members are passed on to `section`, force and
--- moment of its answer are written through the two references, and the answer goes to `pack_section`. Assumes nothing.
+-- `section_c::tie_rod_section` meets its contract: a walk of its MIR, by hand. The sheet and the members are passed on to `section`, force and
+-- moment of its answer are written through the two references, and the answer goes to `pack`. Assumes nothing.
 use mathlib.Core.Path.{_≡_, refl, sym, ap, subst, _∙_}
 use Prim.Native.Nat.{ℕ, _^_, _<_, _≤_}
 use mathlib.Core.List.{List, [], _∷_}
@@ -56,15 +56,16 @@ use Rattle.section.proofs.entry.section as section
 use Rattle.section.proofs.entry.section.Symbol as section-def
 use Rattle.section.proofs.entry.section.Symbol.{name as #section·entry·section}
 use Rattle.section.proofs.entry.section.Met as section-thm
-use Rattle.tie_rod_c.specs.Answers.{inOneNumber, sectionSeen, sectionSeenOf}
-use Rattle.tie_rod_c.proofs.pack_section as pack
-use Rattle.tie_rod_c.proofs.pack_section.Symbol as pack-def
-use Rattle.tie_rod_c.proofs.pack_section.Symbol.{name as #tie-rod-c·pack-section}
-use Rattle.tie_rod_c.proofs.pack_section.Met as pack-thm
-use Rattle.tie_rod_c.proofs.tie_rod_section.Key.{name as #tie-rod-c·tie-rod-section}
-use Rattle.tie_rod_c.proofs.tie_rod_section as entry
-use Rattle.tie_rod_c.proofs.tie_rod_section.Statement as stated
-use Rattle.tie_rod_c.proofs.tie_rod_section.Code as code
+use Rattle.section_c.specs.Answers.{sectionSeen, sectionSeenOf}
+use Rattle.refusals.specs.Table.{inOneNumber}
+use Rattle.section_c.proofs.pack as pack
+use Rattle.section_c.proofs.pack.Symbol as pack-def
+use Rattle.section_c.proofs.pack.Symbol.{name as #section-c·pack}
+use Rattle.section_c.proofs.pack.Met as pack-thm
+use Rattle.section_c.proofs.tie_rod_section.Key.{name as #section-c·tie-rod-section}
+use Rattle.section_c.proofs.tie_rod_section as entry
+use Rattle.section_c.proofs.tie_rod_section.Statement as stated
+use Rattle.section_c.proofs.tie_rod_section.Code as code
 
 -- the types of the sheet, of the members as passed, of the reference that is passed on, and of the two references to numbers
 abbrev bytes : Ty
@@ -178,7 +179,7 @@ module _ {M : Type 1} (𝓤 : URA M) (H : Heap 𝓤) (A : Atoms 𝓤) (W : Given
       nothing ! $ owned ! i64 (Is i64) (sint-makes 𝓤 H A W w64) temperature _ (refl, gt) $ fjoin ! $ owned ! i64 (Is i64) (sint-makes 𝓤 H A W w64) curvature _ (refl, gc) $ fjoin ! $
       owned ! i64 (Is i64) (sint-makes 𝓤 H A W w64) mean _ (refl, gm) $ fjoin ! $ move ! (3 ∷ 0 ∷ []) $ fjoin ! $ move ! (2 ∷ 0 ∷ []) $ fjoin ! $ move ! (1 ∷ 0 ∷ []) $ join ! $ frame ! $ done !
 
-  -- ---- the call of `pack_section`
+  -- ---- the call of `pack`
   abbrev to-pack : SectionReply → Pack 𝓤 H A mem run .Ghost
   to-pack r = ((tt, tt, tt, (r, tt), (replyVal r ∷ [], tt)), tt)
 
@@ -209,7 +210,7 @@ module _ {M : Type 1} (𝓤 : URA M) (H : Heap 𝓤) (A : Atoms 𝓤) (W : Given
       owned ! i64 (Is i64) (sint-makes 𝓤 H A W w64) temperature _ (refl, gt) $ fjoin ! $ owned ! i64 (Is i64) (sint-makes 𝓤 H A W w64) curvature _ (refl, gc) $ fjoin ! $
       owned ! i64 (Is i64) (sint-makes 𝓤 H A W w64) mean _ (refl, gm) $ fjoin ! $ move ! (2 ∷ 0 ∷ []) $ fjoin ! $ move ! (1 ∷ 0 ∷ []) $ fjoin ! $ frame ! $ done !
 
-  module _ (𝓣 : Tables 𝓤 H) (known-section : Triple 𝓤 (𝓣 .C #section·entry·section) (Section 𝓤 H A mem run)) (known-pack : Triple 𝓤 (𝓣 .C #tie-rod-c·pack-section) (Pack 𝓤 H A mem run))
+  module _ (𝓣 : Tables 𝓤 H) (known-section : Triple 𝓤 (𝓣 .C #section·entry·section) (Section 𝓤 H A mem run)) (known-pack : Triple 𝓤 (𝓣 .C #section-c·pack) (Pack 𝓤 H A mem run))
       (l₀ l₁ l₂ l₃ l₄ l₅ l₆ l₇ l₈ l₉ l₁₀ : ℕ) where
     abbrev En : Env 𝓤 H
     En = (word, l₀) ∷ (bytes, l₁) ∷ (slice, l₂) ∷ (word, l₃) ∷ (word, l₄) ∷ (word, l₅) ∷ (forceRef, l₆) ∷ (momentRef, l₇) ∷ (Y′.mir, l₈) ∷ (given, l₉) ∷ (sliceTy given, l₁₀) ∷ []
@@ -285,7 +286,7 @@ module _ {M : Type 1} (𝓤 : URA M) (H : Heap 𝓤) (A : Atoms 𝓤) (W : Given
         writes r (zs .1 .0) (subst (Is Replies r) (LL.tells Y.the-type Y′.the-laws r (v ∷ []) is) is)
         (LL.owed Y.the-type Y′.the-laws r _ is .1 .1 .0 .1) (LL.owed Y.the-type Y′.the-laws r _ is .1 .1 .1 .0 .1) e l))))))
 
-  module _ (𝓣 : Tables 𝓤 H) (known-section : Triple 𝓤 (𝓣 .C #section·entry·section) (Section 𝓤 H A mem run)) (known-pack : Triple 𝓤 (𝓣 .C #tie-rod-c·pack-section) (Pack 𝓤 H A mem run)) where
+  module _ (𝓣 : Tables 𝓤 H) (known-section : Triple 𝓤 (𝓣 .C #section·entry·section) (Section 𝓤 H A mem run)) (known-pack : Triple 𝓤 (𝓣 .C #section-c·pack) (Pack 𝓤 H A mem run)) where
     walk : ent 𝓤 (onEntry 𝓤 H A entry.signature (κ₀, (κ₁, (κ₂, (κ₃, tt)))) (q₀, (q₁, (q₂, (q₃, tt)))) a at)
         (WpFn 𝓤 H (𝓣 .C) (𝓣 .Λ) code.function (bv ∷ sv ∷ int-val mean ∷ int-val curvature ∷ int-val temperature ∷ fv ∷ gv ∷ []) Post)
     walk =
@@ -306,7 +307,7 @@ module _ {M : Type 1} (𝓤 : URA M) (H : Heap 𝓤) (A : Atoms 𝓤) (W : Given
         calls-it 𝓣 known-section known-pack l₀ l₁ l₂ l₃ l₄ l₅ l₆ l₇ l₈ l₉ l₁₀)))))))))))
 
 module _ {M : Type 1} (𝓤 : URA M) (H : Heap 𝓤) (A : Atoms 𝓤) (W : Given 𝓤 H A) (mem : Memory → SProp 𝓤) (run : Routine → Fun 𝓤) (𝓣 : Tables 𝓤 H)
-    (known-section : Triple 𝓤 (𝓣 .C #section·entry·section) (Section 𝓤 H A mem run)) (known-pack : Triple 𝓤 (𝓣 .C #tie-rod-c·pack-section) (Pack 𝓤 H A mem run)) where
+    (known-section : Triple 𝓤 (𝓣 .C #section·entry·section) (Section 𝓤 H A mem run)) (known-pack : Triple 𝓤 (𝓣 .C #section-c·pack) (Pack 𝓤 H A mem run)) where
   entry-walks : Walks 𝓤 H A entry.ended stayed (WpFn 𝓤 H (𝓣 .C) (𝓣 .Λ) code.function) (entry.clauses 𝓤 H A mem run)
   entry-walks = walked 𝓤 H A entry.ended stayed (entry.clauses 𝓤 H A mem run) (WpFn 𝓤 H (𝓣 .C) (𝓣 .Λ) code.function)
       (λ κs. (slice-vals, (slice-vals, (sint-vals w64, (sint-vals w64, (sint-vals w64, (ptr-vals, (ptr-vals, tt))))))))
@@ -355,7 +356,7 @@ pub tie-rod-section-spec : {M : Type 1} → stated.statement M
 unfolding code.routine tablesOf
 tie-rod-section-spec 𝓤 H 𝓜 𝓖 𝓡 =
     entered 𝓤 H (tripleOf 𝓤 H (𝓖 .A) entry.signature (entry.spec 𝓤 H (𝓖 .A) (𝓜 .mem) (𝓡 .run)))
-    (tables 𝓤 H 𝓜 𝓡 code.env .C) (tables 𝓤 H 𝓜 𝓡 code.env .Λ) #tie-rod-c·tie-rod-section code.function (code.unfolded 𝓤 H 𝓜 𝓡)
+    (tables 𝓤 H 𝓜 𝓡 code.env .C) (tables 𝓤 H 𝓜 𝓡 code.env .Λ) #section-c·tie-rod-section code.function (code.unfolded 𝓤 H 𝓜 𝓡)
     (entry-meets 𝓤 H (𝓖 .A) (givenOf 𝓤 H 𝓜 𝓖) (𝓜 .mem) (𝓡 .run) (tablesOf 𝓤 H 𝓜 (tables 𝓤 H 𝓜 𝓡 code.env))
     (cited 𝓤 H (Section 𝓤 H (𝓖 .A) (𝓜 .mem) (𝓡 .run)) 𝓜 𝓡 code.env #section·entry·section section-def.routine code.calls-section·entry·section (section-thm.met 𝓤 H 𝓜 𝓖 𝓡))
-    (cited 𝓤 H (Pack 𝓤 H (𝓖 .A) (𝓜 .mem) (𝓡 .run)) 𝓜 𝓡 code.env #tie-rod-c·pack-section pack-def.routine code.calls-tie-rod-c·pack-section (pack-thm.met 𝓤 H 𝓜 𝓖 𝓡)))
+    (cited 𝓤 H (Pack 𝓤 H (𝓖 .A) (𝓜 .mem) (𝓡 .run)) 𝓜 𝓡 code.env #section-c·pack pack-def.routine code.calls-section-c·pack (pack-thm.met 𝓤 H 𝓜 𝓖 𝓡)))
