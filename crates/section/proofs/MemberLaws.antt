@@ -9,7 +9,7 @@ use native.Mathlib.Omega.{arith}
 use lib.Dec.{leb}
 use lib.IntN.{ℤ, pos, natAbs, _*ℤ_}
 use Rattle.refusals.specs.Table.{Refusal, Answer, passes, refused, refusal, firstOf}
-use Rattle.refusals.proofs.FirstLaws.{both-hold, stops-first, goes-on, both-pass, passes-line}
+use Rattle.refusals.proofs.FirstLaws.{both-hold, stops-first, goes-on, both-pass, passes-line, same-passes, same-refused, refused-is-not-passes}
 use Rattle.ranges.specs.Ranges.{around, grains, mostStress, mostArea, mostOffset, mostChange, mostCurvature}
 use Rattle.ranges.proofs.RangeMagnitudes.{around-magnitude}
 use Rattle.units.specs.Signs.{isNeg, withSign}
@@ -32,7 +32,7 @@ use Rattle.judge.proofs.JudgeLaws.{read-stands}
 use Rattle.section.specs.declared.Member.{Member}
 use Rattle.section.specs.declared.Change.{Change}
 use Rattle.section.specs.Sections.{memberRight, memberPair, memberTable, memberAnswer, cutStress, forceOf, momentOf}
-use Rattle.section.specs.Tallies.{ChangeRight}
+use Rattle.section.specs.Tallies.{ChangeRight, rodOf}
 
 -- ---- Ranges
 
@@ -128,3 +128,12 @@ module _ (h : Sheet) (c : Change) (m : Member) where
 
   pub next-stress-most : {a : Advance} → SheetSound h → memberAnswer h c m ≡ passes a → natAbs (a .rod .stress .0) ≤ mostStress
   next-stress-most {a} sound e = ranged (a .rod) (member-passed sound e .next .accepted .in-range) .stress
+
+-- What trying a member says of its answer.
+pub rod-moves : (x : Answer Advance) {r : Rod} → passes r ≡ rodOf x → (a : Advance) × ((x ≡ passes a) × (a .rod ≡ r))
+rod-moves (passes a) {r} e = (a, (refl, same-passes (a .rod) r (sym e)))
+rod-moves (refused n) {r} e = absurd (refused-is-not-passes n r (sym e))
+
+pub rod-refused : (x : Answer Advance) {n : ℕ} → refused n ≡ rodOf x → x ≡ refused n
+rod-refused (passes a) {n} e = absurd (refused-is-not-passes n (a .rod) e)
+rod-refused (refused m) {n} e = ap refused (same-refused m n (sym e))

@@ -1,6 +1,7 @@
 // One rod of a section, by value (SPEC 15.4, 15.5, 15.7): what it adds to the tally, and what it becomes.
 use crate::Change;
 use crate::Member;
+use crate::MemberTried;
 use crate::Movement;
 use crate::Opening;
 use crate::SectionReply;
@@ -18,9 +19,8 @@ ghost use Prim.Native.Nat.{_/_, _≤_};
 ghost use lib.IntN.{natAbs};
 ghost use Rattle.ranges.specs.Ranges.{mostStress};
 ghost use Rattle.state.specs.States.{StateFits};
-ghost use Rattle.carry.specs.Reaching.{triedMeaning, withReached};
 ghost use Rattle.section.specs.Sections.{callRight, changeOf, cutStress, memberAnswer, memberPair, memberRight, withState};
-ghost use Rattle.section.specs.Tallies.{ChangeRight, MovementRight, Opened, Ready, Room, addedTo, endedAt, nextOf, replyOf, sectionsOwn, tallyOf};
+ghost use Rattle.section.specs.Tallies.{ChangeRight, MovementRight, Opened, Ready, Room, addedTo, endedAt, memberMeaning, nextOf, replyOf, rodOf, sectionsOwn, tallyOf};
 
 // Area and offset are in their ranges.
 fn right(member: Member) -> bool
@@ -48,25 +48,32 @@ fn pair_at(change: Change, member: Member) -> Pair
     }
 }
 
-// Tries a rod as a single pair does (SPEC 15.4): 5 and 6 of its state, 8 of the pair, 9, 11 and 10 of the step.
-fn tried(movement: Movement, member: Member) -> Tried
+// Tries a rod as a single pair does (SPEC 15.4): 5 and 6 of its state, 8 of the pair, 9, 11 and 10 of the step. The row goes nowhere.
+fn tried(movement: Movement, member: Member) -> MemberTried
     requires { ⌜ MovementRight movement × (memberRight member ≡ true) ⌝ }
-    ensures { λ r. ⌜ triedMeaning r ≡ withReached (movement .sheet) (memberAnswer (movement .sheet) (movement .change) member) ⌝ }
+    ensures { λ r. ⌜ memberMeaning r ≡ rodOf (memberAnswer (movement .sheet) (movement .change) member) ⌝ }
 {
     let sheet = movement.sheet;
     let change = movement.change;
     let state = member.state;
     let judged = judge::judge_state(sheet, &state);
-    let number = judged.number;
-    if number != 0 {
-        return Tried::Refused(number);
+    let holder = judged.number;
+    if holder != 0 {
+        return MemberTried::Refused(holder);
     }
     let pair = pair_at(change, member);
     if !pair.in_range() {
-        return Tried::Refused(8);
+        return MemberTried::Refused(8);
     }
     let reached = judged.reached;
-    reached.over(sheet, pair)
+    match reached.over(sheet, pair) {
+        Tried::Accepted(carried) => {
+            let to = carried.to;
+            let rod = to.rod;
+            MemberTried::Moves(rod)
+        }
+        Tried::Refused(number) => MemberTried::Refused(number),
+    }
 }
 
 // A stress cut toward zero to 10⁻³ MPa (SPEC 15.5): the magnitude is divided, and the sign put back.
@@ -133,12 +140,11 @@ pub(crate) fn tally(tally: Tally, member: Member, movement: Movement) -> Tally
         return tally;
     }
     match tried(movement, member) {
-        Tried::Accepted(carried) => {
-            let reached = carried.to;
-            let stress = reached.rod.stress;
+        MemberTried::Moves(rod) => {
+            let stress = rod.stress;
             added(tally, member, stress)
         }
-        Tried::Refused(refusal) => {
+        MemberTried::Refused(refusal) => {
             let place = tally.seen + 1;
             ended(refusal, place)
         }
@@ -168,12 +174,8 @@ pub(crate) fn next(member: Member, movement: Movement) -> Member
         return member;
     }
     match tried(movement, member) {
-        Tried::Accepted(carried) => {
-            let reached = carried.to;
-            let rod = reached.rod;
-            with_state(member, rod)
-        }
-        Tried::Refused(_) => member,
+        MemberTried::Moves(rod) => with_state(member, rod),
+        MemberTried::Refused(_) => member,
     }
 }
 

@@ -3,16 +3,19 @@ use borrow.Author.Tests.{not-true, not-false}
 use mathlib.Core.Path.{_≡_, sym, ap, _∙_}
 use mathlib.Core.Bool.{true, false}
 use mathlib.Core.List.{_++_}
-use Rattle.refusals.specs.Table.{passes, firstOf}
+use Rattle.refusals.specs.Table.{Answer, passes, firstOf}
 use Rattle.refusals.proofs.FirstLaws.{passes-given}
 use Rattle.pair.specs.Pairs.{pairInRange}
 use Rattle.state.specs.States.{stateOf, stateRefusals}
 use Rattle.rod.specs.Against.{againstRefusals}
+use Rattle.rod.specs.declared.step.Advance.{Advance}
 use Rattle.rod.specs.Steps.{advanceOf, stepRefusals}
-use Rattle.carry.specs.Reaching.{withReached}
+use Rattle.carry.specs.Reaching.{triedMeaning, withReached}
+use Rattle.carry.proofs.ReachedLaws.{tried-accepted, tried-refused}
 use Rattle.judge.specs.Standing.{Ready}
 use Rattle.judge.proofs.JudgeLaws.{number-refused, number-passes}
-use Rattle.section.specs.Sections.{memberPair}
+use Rattle.section.specs.Sections.{memberAnswer, memberPair}
+use Rattle.section.specs.Tallies.{rodOf}
 use Rattle.section.proofs.MemberLaws.{state-stops, pair-stops, step-decides}
 use Rattle.section.proofs.each.tried.Statement.{statement}
 use Rattle.section.proofs.each.tried.Tie as tie
@@ -36,7 +39,7 @@ returns c =
     let judged = c .before in
     let start = judged .before .before .before .before .before in
     let a = start .args in
-    ap (withReached (a .movement .sheet)) (sym (state-stops (a .movement .sheet) (a .movement .change) (a .member) (ready start)
+    ap rodOf (sym (state-stops (a .movement .sheet) (a .movement .change) (a .member) (ready start)
     (number-refused (judged .judge-state .result .number) _ (judged .judge-state .ensures .0) (c .if1 .taken))))
 
 returns-2 : tie.Need-returns-2
@@ -47,7 +50,7 @@ returns-2 c =
     let a = start .args in
     let out : pairInRange (memberPair (a .movement .change) (a .member)) ≡ false =
     ap pairInRange (sym (tested .before .pair-at .ensures)) ∙ sym (tested .in-range .ensures) ∙ not-true _ (c .if2 .taken) in
-    ap (withReached (a .movement .sheet)) (sym (pair-stops (a .movement .sheet) (a .movement .change) (a .member) (ready start) (state-passed passed) out))
+    ap rodOf (sym (pair-stops (a .movement .sheet) (a .movement .change) (a .member) (ready start) (state-passed passed) out))
 
 -- the pair is in its ranges
 pair-right : (c : tie.Else2) → pairInRange (c .before .before .pair-at .result) ≡ true
@@ -58,8 +61,11 @@ over-requires c κs =
     let passed = c .before .before .before .before in
     (passed .before .judge-state .ensures .1 (passed .if1 .left), pair-right (c .before))
 
-returns-3 : tie.Need-returns-3
-returns-3 c =
+-- what trying the pair answers is the member's answer
+answered : (c : tie.After-over) → let passed = c .before .before .before .before .before in
+    let a = passed .before .before .before .before .before .before .args in
+    triedMeaning (c .over .result) ≡ withReached (a .movement .sheet) (memberAnswer (a .movement .sheet) (a .movement .change) (a .member))
+answered c =
     let tested = c .before .before in
     let passed = tested .before .before .before in
     let start = passed .before .before .before .before .before .before in
@@ -70,6 +76,23 @@ returns-3 c =
     c .over .ensures
     ∙ ap (withReached h) ((λ i. firstOf (stepRefusals h (sym (same-rod passed) i) (is i)) (advanceOf h (sym (same-rod passed) i) (is i)))
     ∙ sym (step-decides h (a .movement .change) (a .member) (ready start) (state-passed passed) right))
+
+abbrev answer : tie.After-over → Answer Advance
+answer c =
+    let a = c .before .before .before .before .before .before .before .before .before .before .before .args in
+    memberAnswer (a .movement .sheet) (a .movement .change) (a .member)
+
+returns-3 : tie.Need-returns-3
+returns-3 c =
+    let carried = c .before .before .before in
+    let over = carried .before .before in
+    sym (ap rodOf (tried-accepted _ (answer over) (ap triedMeaning (sym (carried .carried .given .1)) ∙ answered over) .0))
+
+returns-4 : tie.Need-returns-4
+returns-4 c =
+    let number = c .before in
+    let over = number .before .before in
+    sym (ap rodOf (tried-refused _ (answer over) (ap triedMeaning (sym (number .number .given .1)) ∙ answered over)))
 
 pub tried-spec : {M : Type 1} → statement M
 tried-spec =
@@ -82,4 +105,7 @@ tried-spec =
     (λ c κs. search needs)
     returns-2
     over-requires
-    returns-3)
+    (λ c. search needs)
+    (λ c. search needs)
+    returns-3
+    returns-4)
