@@ -11,7 +11,7 @@ use borrow.Author.Tests.{ne-eqb}
 use lib.Dec.{eqb}
 use lib.ListN.{length, getD, drop, length-append}
 use lib.Seq.{take-at}
-use Rattle.refusals.specs.Table.{Refusal, Answer, passes, refused, firstOf, NoneApplies, Given}
+use Rattle.refusals.specs.Table.{Refusal, Answer, passes, refused, firstOf, NoneApplies, Given, numbersOf}
 use Rattle.refusals.proofs.FirstLaws.{answer-number, none-passes, none-split, given-refused, decides, first-follows}
 use Rattle.pair.specs.Pairs.{pairOf, pairLength, pairRefusals, listRefusals}
 use Rattle.row.specs.Rows.{rowLength}
@@ -34,8 +34,11 @@ use Rattle.judge.specs.Standing.{Ready, readyOf, standingRefusals}
 use Rattle.tie_rod.specs.Calls.{Kind, single, run, Call, pieces, pieceAt, countIn, pairsIn, bufferRefusals, lengthRefusals, callRefusals, Left, left, handed, over, replyOf, placeOf, partOf, stopped, carriedOn, leftBy, callLeaves, tangentTold, forecastAnswer, unusedAnswer, unusedLeft}
 use Rattle.tie_rod.proofs.PieceLaws.{length-pieces, pieces-around}
 use Rattle.tie_rod.proofs.CallLaws.{lengths-pass, handed-whole, never-handed, standing-stops, call-stops, call-walked}
+use Rattle.section.specs.declared.Member.{Member}
+use Rattle.section.specs.declared.Change.{Change}
 use Rattle.demands.specs.Lists.{acceptedBy, acceptedIn}
-use Rattle.demands.specs.Demands.{numbersOf, ByCall, Accepts, ByPair, ByNone, Reason, Untouched, Written, CallAnswered, Answered}
+use Rattle.demands.specs.Sections.{SectionAnswered}
+use Rattle.demands.specs.Demands.{ByCall, Accepts, ByPair, ByNone, Reason, Untouched, Written, CallAnswered, Answered}
 use Rattle.demands.proofs.Splits.{split-front, split-next}
 
 module _ (sheet state : List ℕ) (c : Call) where
@@ -380,11 +383,13 @@ module _ (sheet state : List ℕ) where
   unfolding unusedAnswer
   no-state n g = ap unusedLeft (given-refused (sheetRefusals sheet) (stateBytes (unusedOf (sheetOf sheet))) g)
 
-  pub all-answered : Answered sheet state
+  -- What is claimed of sections is shown by SectionAnswers, which stands on this file.
+  pub all-answered : ((c : Change) (members : List Member) → SectionAnswered sheet c members) → Answered sheet state
   unfolding forecastAnswer unusedAnswer
-  all-answered =
+  all-answered sections =
       record {
         calls = call-answered sheet state;
+        sections = sections;
         forecast-order = forecast-order;
         forecast = first-follows (standingRefusals sheet state) (forecastOf (sheetOf sheet) (stateOf state));
         no-tangent = no-tangent;

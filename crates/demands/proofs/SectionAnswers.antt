@@ -1,14 +1,13 @@
 -- Demand 1 for a section (SPEC 15.8, 15.9): its number and place are those of the tables, all members move or none does, each that moves is
 -- where a lone rod is, and force and moment are those of the members as they stand then.
-use Prim.Native.Nat.{ℕ, _+_}
+use Prim.Native.Nat.{ℕ, _+_, _*_, _≤_}
 use mathlib.Core.Path.{_≡_, refl, sym, ap, subst, _∙_}
 use mathlib.Core.List.{List, [], _∷_, _++_, map}
-use mathlib.Core.Bool.{not}
-use mathlib.Core.Logic.{_⊎_, inl, inr, _↔_}
+use mathlib.Core.Bool.{true, not}
+use mathlib.Core.Logic.{_⊎_, inl, inr}
 use native.Mathlib.Omega.{arith}
 use borrow.Author.Tests.{eq-eqb}
-use lib.Dec.{eqb}
-use lib.IntN.{ℤ, pos, _+ℤ_}
+use lib.IntN.{natAbs, _+ℤ_}
 use lib.ListN.{length}
 use Rattle.refusals.specs.Table.{Refusal, refusal, Answer, passes, refused, firstOf, NoneApplies, Given, Decided}
 use Rattle.refusals.proofs.FirstLaws.{none-passes, passes-none-applies, given-refused, refused-given, both-pass, decides, answer-number}
@@ -16,6 +15,7 @@ use Rattle.sheet.specs.declared.Sheet.{Sheet}
 use Rattle.sheet.specs.Sheets.{sheetOf, sheetRefusals, sheetFieldRefusals}
 use Rattle.sheet.specs.Sound.{SheetSound}
 use Rattle.sheet.proofs.Passed.{passed-sound}
+use Rattle.ranges.specs.Ranges.{mostRods}
 use Rattle.pair.specs.Pairs.{pairInRange}
 use Rattle.rod.specs.declared.Rod.{Rod}
 use Rattle.rod.specs.declared.step.Advance.{Advance}
@@ -25,13 +25,14 @@ use Rattle.state.specs.States.{stateOf, stateLength, stateRefusals, stateFieldR
 use Rattle.state.proofs.RoundTrip.{rod-back}
 use Rattle.section.specs.declared.Member.{Member}
 use Rattle.section.specs.declared.Change.{Change}
-use Rattle.section.specs.Sections.{sectionRefusals, memberPair, memberTable, memberAnswer, forceOf, momentOf, withState, Move, moveOf, Moves, all, stopped, movesFrom, sum, SectionLeft, turnedAway, moved, settled, sectionBy, sectionLeaves}
+use Rattle.section.specs.Sections.{sectionRefusals, memberPair, memberTable, memberAnswer, forceOf, momentOf, mostForce, mostMoment, Move, Moves, all, stopped, movesFrom, sum, SectionLeft, turnedAway, moved, settled, sectionBy, sectionLeaves}
 use Rattle.section.proofs.MemberLaws.{member-passed}
-use Rattle.section.proofs.MovesLaws.{Pass, movesOf, pass-move, one-stops, all-pass, one-stopped, same-all, same-stopped, all-is-not-stopped}
+use Rattle.section.proofs.MovesLaws.{Pass, movesOf, pass-move, one-stops, all-pass, one-stopped}
+use Rattle.section.proofs.SectionBounds.{few-members, members-right, sums-most}
 use Rattle.section.proofs.Numbers.{Numbered, lines-numbered, member-numbered}
-use Rattle.demands.specs.Demands.{numbersOf}
-use Rattle.demands.specs.Sections.{Each, EachAfter, forceNow, momentNow, MovedAlone, BySection, ByMember, ByNobody, SectionReason, SectionAnswered}
-use Rattle.demands.proofs.LoneRods.{lone-number, lone-next}
+use Rattle.tie_rod.specs.Calls.{callLeaves}
+use Rattle.demands.specs.Sections.{Each, EachAfter, loneCall, forceNow, momentNow, MovedAlone, BySection, ByMember, SectionReason, SectionAnswered}
+use Rattle.demands.proofs.LoneRods.{lone-number, lone-next, lone-refused}
 
 module _ (sheet : List ℕ) (c : Change) (ms : List Member) where
   abbrev h : Sheet
@@ -70,6 +71,22 @@ module _ (sheet : List ℕ) (c : Change) (ms : List Member) where
   pass-each (m ∷ l) (a ∷ advances) (e, pass) =
       (passes-none-applies (memberTable h c m) (advanceOf h (stateOf (m .state)) (memberPair c m)) e, pass-each l advances pass)
 
+  pub sheet-passes : NoneApplies lines → (firstOf (sheetRefusals sheet) h ≡ passes h) × SheetSound h
+  unfolding sectionRefusals
+  sheet-passes none =
+      let passed = both-pass (sheetRefusals sheet) _ h h (none-passes lines h none) .0 in
+      (passed, passed-sound sheet passed .1)
+
+  -- A refused member's own answer, and what the members come to by it.
+  member-refuses : {n p : ℕ} (by : ByMember sheet c ms n p) → memberAnswer h c (by .member) ≡ refused n
+  unfolding memberAnswer
+  member-refuses by = given-refused (memberTable h c (by .member)) (advanceOf h (stateOf (by .member .state)) (memberPair c (by .member))) (by .given)
+
+  member-stops : {n p : ℕ} (by : ByMember sheet c ms n p) → movesFrom h c 1 ms ≡ stopped n (1 + length (by .before))
+  member-stops by =
+      let (advances, pass) = each-pass (by .before) (by .none-before) in
+      ap (movesFrom h c 1) (by .in-order) ∙ one-stops h c 1 (by .before) advances (by .member) (by .behind) pass (member-refuses by)
+
   -- ---- Number and place
 
   abbrev Told : (l : SectionLeft) (number place : ℕ) → Type 0
@@ -79,14 +96,10 @@ module _ (sheet : List ℕ) (c : Change) (ms : List Member) where
   Reasons number place = SectionReason sheet c ms number place
 
   reason-told : (number place : ℕ) → Reasons number place → Told (sectionLeaves sheet c ms) number place
-  unfolding memberAnswer
   reason-told number place (inl by) =
       subst (λ (l : SectionLeft). Told l number place) (sym (when-section (by .given))) (refl, sym (by .nowhere))
   reason-told number place (inr (inl by)) =
-      let (advances, pass) = each-pass (by .before) (by .none-before) in
-      let refuses = given-refused (memberTable h c (by .member)) (advanceOf h (stateOf (by .member .state)) (memberPair c (by .member))) (by .given) in
-      let stops = ap (movesFrom h c 1) (by .in-order) ∙ one-stops h c 1 (by .before) advances (by .member) (by .behind) pass refuses in
-      subst (λ (l : SectionLeft). Told l number place) (sym (when-moves (by .own) stops)) (refl, omega (arith, by .at))
+      subst (λ (l : SectionLeft). Told l number place) (sym (when-moves (by .own) (member-stops by))) (refl, omega (arith, by .at))
   reason-told number place (inr (inr by)) =
       let (advances, pass) = each-pass ms (by .all-pass) in
       subst (λ (l : SectionLeft). Told l number place) (sym (when-moves (by .own) (pass-move h c 1 ms advances pass))) (sym (by .no-number), sym (by .nowhere))
@@ -151,16 +164,27 @@ module _ (sheet : List ℕ) (c : Change) (ms : List Member) where
   abbrev number : ℕ
   number = sectionLeaves sheet c ms .reply .number
 
-  -- What holds of members as they were, with no force and no moment, holds beside a number;
-  beside-number : (P : SectionLeft → Type 0) → ((n p : ℕ) → P (turnedAway n p ms)) → (number ≡ 0 → ⊥) → P (sectionLeaves sheet c ms)
-  beside-number P kept some = by-way ways
+  -- Beside a number all is as it was.
+  turned : (n p : ℕ) → BySection sheet c ms n p ⊎ ByMember sheet c ms n p → sectionLeaves sheet c ms ≡ turnedAway n p ms
+  unfolding memberAnswer
+  turned n p (inl by) = when-section (by .given) ∙ ap (λ (q : ℕ). turnedAway n q ms) (sym (by .nowhere))
+  turned n p (inr by) =
+      let at : 1 + length (by .before) ≡ p = omega (arith, by .at) in
+      when-moves (by .own) (member-stops by) ∙ ap (λ (q : ℕ). turnedAway n q ms) at
+
+  pub kept-beside : (number ≡ 0 → ⊥) → sectionLeaves sheet c ms .members ≡ ms
+  kept-beside some = by-way ways
     where
-      by-way : ((n : ℕ) × Given lines n) ⊎ (StopsAt ⊎ AllMove) → P (sectionLeaves sheet c ms)
-      by-way (inl (n, g)) = subst P (sym (when-section g)) (kept n 0)
-      by-way (inr (inl x)) = subst P (sym (stops-leaves x)) (kept (x .number) (x .place))
+      by-way : ((n : ℕ) × Given lines n) ⊎ (StopsAt ⊎ AllMove) → sectionLeaves sheet c ms .members ≡ ms
+      by-way (inl (n, g)) = ap (λ (l : SectionLeft). l .members) (when-section g)
+      by-way (inr (inl x)) = ap (λ (l : SectionLeft). l .members) (stops-leaves x)
       by-way (inr (inr x)) = absurd (some (ap (λ (l : SectionLeft). l .reply .number) (all-leaves (x .advances) (x .none) (x .pass))))
 
-  -- what holds of members that all passed, beside none.
+  alone : (n p : ℕ) (by : ByMember sheet c ms n p) → pairInRange (memberPair c (by .member)) ≡ true
+      → callLeaves sheet (by .member .state) (loneCall c (by .member)) .reply .number ≡ n
+  alone n p by right = let (passed, sound) = sheet-passes (by .own) in lone-refused sheet passed sound c (by .member) (member-refuses by) right
+
+  -- What holds of members that all passed holds where there is no number.
   pub without-number : (P : SectionLeft → Type 0) → ((advances : List Advance) → NoneApplies lines → Pass h c ms advances → P (moved (movesOf h c ms advances)))
       → number ≡ 0 → P (sectionLeaves sheet c ms)
   without-number P moving none = by-way ways
@@ -171,12 +195,6 @@ module _ (sheet : List ℕ) (c : Change) (ms : List Member) where
           let one = one-stopped h c 1 ms (x .stops) in
           absurd (member-numbered h c (one .member) (one .refuses) .0 (sym (ap (λ (l : SectionLeft). l .reply .number) (stops-leaves x)) ∙ none))
       by-way (inr (inr x)) = subst P (sym (all-leaves (x .advances) (x .none) (x .pass))) (moving (x .advances) (x .none) (x .pass))
-
-  pub sheet-passes : NoneApplies lines → (firstOf (sheetRefusals sheet) h ≡ passes h) × SheetSound h
-  unfolding sectionRefusals
-  sheet-passes none =
-      let passed = both-pass (sheetRefusals sheet) _ h h (none-passes lines h none) .0 in
-      (passed, passed-sound sheet passed .1)
 
   moved-alone : firstOf (sheetRefusals sheet) h ≡ passes h → SheetSound h → (l : List Member) (advances : List Advance) → Pass h c l advances
       → EachAfter (MovedAlone sheet c) l (map (λ (v : Move). v .to) (movesOf h c l advances))
@@ -197,6 +215,22 @@ module _ (sheet : List ℕ) (c : Change) (ms : List Member) where
       let (forces, moments) = sums-now sound l advances pass in
       ((λ i. forceOf m (back i) +ℤ forces i), (λ i. momentOf m (back i) +ℤ moments i))
 
+  -- Both are small: 0, or the sums over at most 32 members.
+  sums-fit : (natAbs (sectionLeaves sheet c ms .reply .force) ≤ mostRods * mostForce) × (natAbs (sectionLeaves sheet c ms .reply .moment) ≤ mostRods * mostMoment)
+  sums-fit = by-way ways
+    where
+      Small : SectionLeft → Type 0
+      Small l = (natAbs (l .reply .force) ≤ mostRods * mostForce) × (natAbs (l .reply .moment) ≤ mostRods * mostMoment)
+
+      by-way : ((n : ℕ) × Given lines n) ⊎ (StopsAt ⊎ AllMove) → Small (sectionLeaves sheet c ms)
+      by-way (inl (n, g)) = subst Small (sym (when-section g)) (omega arith, omega arith)
+      by-way (inr (inl x)) = subst Small (sym (stops-leaves x)) (omega arith, omega arith)
+      by-way (inr (inr x)) =
+          let passed = none-passes lines h (x .none) in
+          let few = few-members sheet c ms passed in
+          let (forces, moments) = sums-most h c ms (x .advances) (sheet-passes (x .none) .1) (members-right sheet c ms passed) (x .pass) in
+          subst Small (sym (all-leaves (x .advances) (x .none) (x .pass))) (omega (arith, forces, few), omega (arith, moments, few))
+
   -- 4 can't be a member's number.
   no-four : (m : Member) → length (m .state) ≡ stateLength → Given (memberTable h c m) 4 → ⊥
   unfolding memberTable stateRefusals stateFieldRefusals againstRefusals stepRefusals firstOf
@@ -214,12 +248,13 @@ module _ (sheet : List ℕ) (c : Change) (ms : List Member) where
         order = refl;
         member-order = λ m. refl;
         exactly = λ number place. (told-reason number place, reason-told number place);
-        none-moves = beside-number (λ (l : SectionLeft). l .members ≡ ms) (λ n p. refl);
-        no-force = beside-number (λ (l : SectionLeft). l .reply .force ≡ pos 0) (λ n p. refl);
-        no-moment = beside-number (λ (l : SectionLeft). l .reply .moment ≡ pos 0) (λ n p. refl);
+        turned-away = turned;
+        refused-alone = alone;
         all-move = without-number (λ (l : SectionLeft). EachAfter (MovedAlone sheet c) ms (l .members))
             (λ advances none pass. let (passed, sound) = sheet-passes none in moved-alone passed sound ms advances pass);
         force = without-number (λ (l : SectionLeft). l .reply .force ≡ forceNow (l .members)) (λ advances none pass. sums-now (sheet-passes none .1) ms advances pass .0);
         moment = without-number (λ (l : SectionLeft). l .reply .moment ≡ momentNow (l .members)) (λ advances none pass. sums-now (sheet-passes none .1) ms advances pass .1);
+        force-most = sums-fit .0;
+        moment-most = sums-fit .1;
         no-4 = no-four;
       }

@@ -1,14 +1,14 @@
 -- What demands 1 and 2 claim of calls on bytes (SPEC 9.11 to 9.13): the single pair, the run, the forecast and the unused rod, on any bytes
--- of any lengths; cited by proofs/Demands. Definitions only, over what a call leaves and never over the program; nothing is assumed. Demand
--- 3, over lists of calls, is AtEveryStop in Lists.
+-- of any lengths; cited by proofs/Demands. Definitions only, over what a call leaves and never over the program; nothing is assumed. What
+-- they claim of a section is SectionAnswered in Sections; demand 3, over lists, is AtEveryStop in Lists and WithinFrom in Sections.
 use Prim.Native.Nat.{ℕ, _+_, _*_, _≤_, _<_}
 use mathlib.Core.Path.{_≡_}
 use mathlib.Core.Bool.{false}
-use mathlib.Core.List.{List, [], _∷_, _++_, map}
+use mathlib.Core.List.{List, [], _∷_, _++_}
 use mathlib.Core.Logic.{_⊎_, _↔_}
 use lib.ListN.{length, getD, drop}
 use lib.IntN.{pos, _-ℤ_}
-use Rattle.refusals.specs.Table.{Refusal, refusal, NoneApplies, Given, Follows}
+use Rattle.refusals.specs.Table.{Refusal, refusal, NoneApplies, Given, Follows, numbersOf}
 use Rattle.units.specs.Kinds.{grain}
 use Rattle.pair.specs.declared.Pair.{Pair}
 use Rattle.pair.specs.Pairs.{pairOf, pairLength}
@@ -28,11 +28,10 @@ use Rattle.rod.specs.Unused.{unusedOf}
 use Rattle.carry.specs.Walk.{pairTable, lastRod, rowsOf, rowsBytes, History}
 use Rattle.judge.specs.Standing.{standingRefusals}
 use Rattle.tie_rod.specs.Calls.{Call, pieces, pieceAt, countIn, callRefusals, Left, partOf, callLeaves, tangentTold, forecastAnswer, unusedAnswer, unusedLeft}
+use Rattle.section.specs.declared.Member.{Member}
+use Rattle.section.specs.declared.Change.{Change}
 use Rattle.demands.specs.Lists.{stateAfter, acceptedIn, stateIn}
-
--- SPEC 8.1: the numbers of a table, in its order.
-abbrev pub numbersOf : List Refusal → List ℕ
-numbersOf table = map (λ (r : Refusal). r .number) table
+use Rattle.demands.specs.Sections.{SectionAnswered}
 
 -- ---- Demand 1: the conditions
 
@@ -115,9 +114,11 @@ pub record CallAnswered (sheet state : List ℕ) (c : Call) : Type 0 where
 
 -- ---- Demand 1 whole
 
--- SPEC 9.11: every call, the forecast and the unused rod, for any bytes as sheet and as state.
+-- SPEC 9.11: every call, section, forecast and unused rod, for any bytes as sheet and as state.
 pub record Answered (sheet state : List ℕ) : Type 0 where
   pub calls : (c : Call) → CallAnswered sheet state c
+  -- SPEC 15.8: a section, whatever its members' states
+  pub sections : (c : Change) (members : List Member) → SectionAnswered sheet c members
   -- SPEC 9.8: a forecast follows the standing lines, and tells tangent 0 beside a number
   pub forecast-order : numbersOf (standingRefusals sheet state) ≡ 1 ∷ 2 ∷ 3 ∷ 13 ∷ 4 ∷ 5 ∷ 6 ∷ []
   pub forecast : Follows (standingRefusals sheet state) (forecastOf (sheetOf sheet) (stateOf state)) (forecastAnswer sheet state)

@@ -68,6 +68,11 @@ module _ (sheet : List ℕ) where
   abbrev pub afterCall : Situation → Call → Situation
   afterCall s c = added s c (acceptedIn (s .state) c) (stateAfter (s .state) c)
 
+  -- SPEC 11.13: the situation behind some calls.
+  unfoldable pub afterCalls : Situation → List Call → Situation
+  afterCalls s [] = s
+  afterCalls s (c ∷ calls) = afterCalls (afterCall s c) calls
+
   -- ---- The claim. `sound` says that the sheet passes.
 
   module _ (sound : SheetSound (sheetOf sheet)) where

@@ -1,25 +1,25 @@
 -- What is claimed of sections (SPEC 15.8 to 15.11): their answers by the tables, each member as a lone rod, and demand 3 over lists of
 -- section calls; cited by proofs/Demands. Definitions only, over what a section leaves and never over the program; nothing is assumed.
-use Prim.Native.Nat.{ℕ, _+_, _<_}
+use Prim.Native.Nat.{ℕ, _+_, _*_, _≤_}
 use mathlib.Core.Path.{_≡_}
-use mathlib.Core.Bool.{cond}
+use mathlib.Core.Bool.{true, cond}
 use mathlib.Core.List.{List, [], _∷_, _++_, map}
 use mathlib.Core.Logic.{_⊎_, _↔_}
 use lib.ListN.{length, replicate}
 use lib.Dec.{eqb}
-use lib.IntN.{ℤ, pos}
-use Rattle.refusals.specs.Table.{NoneApplies, Given}
-use Rattle.pair.specs.Pairs.{pairBytes}
+use lib.IntN.{ℤ, natAbs}
+use Rattle.refusals.specs.Table.{NoneApplies, Given, numbersOf}
+use Rattle.ranges.specs.Ranges.{mostRods}
+use Rattle.pair.specs.Pairs.{pairBytes, pairInRange}
 use Rattle.row.specs.Rows.{rowLength}
 use Rattle.sheet.specs.Sheets.{sheetOf}
 use Rattle.sheet.specs.Sound.{SheetSound}
 use Rattle.state.specs.States.{stateLength, stateOf}
 use Rattle.section.specs.declared.Member.{Member}
 use Rattle.section.specs.declared.Change.{Change}
-use Rattle.section.specs.Sections.{memberPair, memberTable, sectionRefusals, forceOf, momentOf, sum, sectionLeaves}
+use Rattle.section.specs.Sections.{memberPair, memberTable, sectionRefusals, forceOf, momentOf, mostForce, mostMoment, sum, turnedAway, sectionLeaves}
 use Rattle.tie_rod.specs.Calls.{Call, call, single, callLeaves}
-use Rattle.demands.specs.Lists.{Situation, begins, afterCall, Holds}
-use Rattle.demands.specs.Demands.{numbersOf}
+use Rattle.demands.specs.Lists.{Situation, begins, afterCalls, Holds, AtEveryStop}
 
 -- ---- Demand 1 for a section
 
@@ -45,6 +45,10 @@ momentNow members = sum (map (λ (m : Member). momentOf m (stateOf (m .state) .s
 -- SPEC 15.9: the single pair that a call is to a member, with room for a row and a state.
 abbrev pub loneCall : Change → Member → Call
 loneCall c m = call single (pairBytes (memberPair c m)) (replicate rowLength 0) (replicate stateLength 0)
+
+-- SPEC 15.10: the calls of the lone rod beside a member: a single pair for each of some changes.
+abbrev pub loneCalls : Member → List Change → List Call
+loneCalls m changes = map (λ (c : Change). loneCall c m) changes
 
 -- SPEC 15.9: a member that moved is where a lone rod of its state is after that single pair, which is accepted.
 pub record MovedAlone (sheet : List ℕ) (c : Change) (m after : Member) : Type 0 where
@@ -89,16 +93,21 @@ pub record SectionAnswered (sheet : List ℕ) (c : Change) (members : List Membe
   pub exactly : (number place : ℕ)
       → ((sectionLeaves sheet c members .reply .number ≡ number) × (sectionLeaves sheet c members .reply .place ≡ place))
       ↔ SectionReason sheet c members number place
-  -- beside a number force and moment are 0, and every member is as it was, byte for byte
-  pub none-moves : (sectionLeaves sheet c members .reply .number ≡ 0 → ⊥) → sectionLeaves sheet c members .members ≡ members
-  pub no-force : (sectionLeaves sheet c members .reply .number ≡ 0 → ⊥) → sectionLeaves sheet c members .reply .force ≡ pos 0
-  pub no-moment : (sectionLeaves sheet c members .reply .number ≡ 0 → ⊥) → sectionLeaves sheet c members .reply .moment ≡ pos 0
+  -- beside a number force and moment are 0, and every member is as it was: area, offset and every byte of its state
+  pub turned-away : (number place : ℕ) → BySection sheet c members number place ⊎ ByMember sheet c members number place
+      → sectionLeaves sheet c members ≡ turnedAway number place members
+  -- SPEC 15.9: a refused member's number is the one that a lone rod of its state gets for its pair, if there is such a pair in bytes
+  pub refused-alone : (number place : ℕ) (by : ByMember sheet c members number place) → pairInRange (memberPair c (by .member)) ≡ true
+      → callLeaves sheet (by .member .state) (loneCall c (by .member)) .reply .number ≡ number
   -- else each member moved as a lone rod does, and force and moment are those of the members as they stand then
   pub all-move : sectionLeaves sheet c members .reply .number ≡ 0 → EachAfter (MovedAlone sheet c) members (sectionLeaves sheet c members .members)
   pub force : sectionLeaves sheet c members .reply .number ≡ 0
       → sectionLeaves sheet c members .reply .force ≡ forceNow (sectionLeaves sheet c members .members)
   pub moment : sectionLeaves sheet c members .reply .number ≡ 0
       → sectionLeaves sheet c members .reply .moment ≡ momentNow (sectionLeaves sheet c members .members)
+  -- SPEC 15.5: neither can leave 64 bits
+  pub force-most : natAbs (sectionLeaves sheet c members .reply .force) ≤ mostRods * mostForce
+  pub moment-most : natAbs (sectionLeaves sheet c members .reply .moment) ≤ mostRods * mostMoment
   -- SPEC 15.4: 4 is no member's number where its state has a state's length
   pub no-4 : (m : Member) → length (m .state) ≡ stateLength → Given (memberTable (sheetOf sheet) c m) 4 → ⊥
 
@@ -121,20 +130,24 @@ module _ (sheet : List ℕ) where
       let l = sectionLeaves sheet c (s .members) in
       record { members = l .members; changes = s .changes ++ cond (eqb (l .reply .number) 0) (c ∷ []) [] }
 
-  -- SPEC 15.10: the situation of a lone rod behind the single pairs that some changes are to a member.
-  unfoldable pub loneAfter : Situation → Member → List Change → Situation
-  loneAfter s m [] = s
-  loneAfter s m (c ∷ changes) = loneAfter (afterCall sheet s (loneCall c m)) m changes
-
   module _ (sound : SheetSound (sheetOf sheet)) (unused : List ℕ) where
-    -- SPEC 15.11: what holds of a member behind some accepted calls. It is where the lone rod is that began unused and was given their own
-    -- pairs, all of which it accepted, and demand 3's claim holds there.
-    pub record LikeLone (changes : List Change) (m : Member) : Type 0 where
-      pub state : m .state ≡ loneAfter (begins unused) m changes .state
-      pub history : loneAfter (begins unused) m changes .history ≡ map (λ (c : Change). memberPair c m) changes
-      pub holds : Holds sheet sound (loneAfter (begins unused) m changes)
+    -- SPEC 15.11: what holds of a member that began as `began`, behind some accepted calls. It is where the lone rod is that began unused
+    -- and was given their own pairs, all of which it accepted, and all of demand 3 holds of that rod.
+    pub record LikeLone (changes : List Change) (began m : Member) : Type 0 where
+      pub area : m .area ≡ began .area
+      pub offset : m .offset ≡ began .offset
+      pub state : m .state ≡ afterCalls sheet (begins unused) (loneCalls began changes) .state
+      pub history : afterCalls sheet (begins unused) (loneCalls began changes) .history ≡ map (λ (c : Change). memberPair c began) changes
+      pub holds : Holds sheet sound (afterCalls sheet (begins unused) (loneCalls began changes))
+      pub every-stop : AtEveryStop sheet sound (begins unused) (loneCalls began changes)
 
     -- SPEC 15.11: demand 3 for a list of section calls: it holds of every member before each call, and at the end.
-    abbrev pub AtEverySection : SectionSituation → List Change → Type 0
-    AtEverySection s [] = Each (LikeLone (s .changes)) (s .members)
-    AtEverySection s (c ∷ changes) = Each (LikeLone (s .changes)) (s .members) × AtEverySection (afterSection s c) changes
+    abbrev pub AtEverySection : (began : List Member) → SectionSituation → List Change → Type 0
+    AtEverySection began s [] = EachAfter (LikeLone (s .changes)) began (s .members)
+    AtEverySection began s (c ∷ changes) = EachAfter (LikeLone (s .changes)) began (s .members) × AtEverySection began (afterSection s c) changes
+
+    -- SPEC 11.8, 15.11: demand 3 whole: lists of calls of a rod that begins unused, and lists of section calls whose members do.
+    pub record WithinFrom : Type 0 where
+      pub calls : (calls : List Call) → AtEveryStop sheet sound (begins unused) calls
+      pub sections : (members : List Member) → Each (λ (m : Member). m .state ≡ unused) members
+          → (changes : List Change) → AtEverySection members (sectionBegins members) changes

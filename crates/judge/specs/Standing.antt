@@ -19,9 +19,13 @@ pub record Ready : Type 0 where
 abbrev pub readyOf : (sheet state : List ℕ) → Ready
 readyOf sheet state = record { sheet = sheetOf sheet; rod = stateOf state }
 
+-- SPEC 8.6: the lines of a state against a sheet that passes: 4 and 5, and 6.
+abbrev pub holderRefusals : Sheet → (state : List ℕ) → List Refusal
+holderRefusals h state = stateRefusals state ++ againstRefusals h (stateOf state)
+
 -- SPEC 8.6: the standing lines: 1 to 3 and 13 of the sheet, 4 and 5 of the state, 6 of the two together.
 unfoldable pub standingRefusals : (sheet state : List ℕ) → List Refusal
-standingRefusals sheet state = sheetRefusals sheet ++ (stateRefusals state ++ againstRefusals (sheetOf sheet) (stateOf state))
+standingRefusals sheet state = sheetRefusals sheet ++ holderRefusals (sheetOf sheet) state
 
 -- SPEC 8.8: what judging a state answers: the number, or the sheet and the rod that passed.
 abbrev pub judgedMeaning : Sheet → Judged → Answer Ready

@@ -12,14 +12,12 @@ use units::Magnitude;
 use units::Nano;
 use units::Tenths;
 ghost use mathlib.Core.Path.{_≡_};
-ghost use mathlib.Core.List.{_++_};
 ghost use Rattle.refusals.specs.Table.{firstOf};
 ghost use Rattle.sheet.specs.Sheets.{verdictNumber};
 ghost use Rattle.sheet.specs.Sound.{SheetSound};
-ghost use Rattle.state.specs.States.{stateOf, stateRefusals};
-ghost use Rattle.rod.specs.Against.{againstRefusals};
+ghost use Rattle.state.specs.States.{stateOf};
 ghost use Rattle.carry.specs.Reaching.{Stands};
-ghost use Rattle.judge.specs.Standing.{judgedMeaning};
+ghost use Rattle.judge.specs.Standing.{holderRefusals, judgedMeaning};
 
 // A refusal's number, or 0 with the rod that passed.
 pub struct Judged {
@@ -72,7 +70,7 @@ fn stopped(number: u64) -> Judged
 // Refusals 4 to 6, against a sheet that passed.
 pub fn judge_state(sheet: Sheet, state: &[u8]) -> Judged
     requires { ⌜ SheetSound sheet ⌝ }
-    ensures { λ r. ⌜ judgedMeaning sheet r ≡ firstOf (stateRefusals (now (state .entry)) ++ againstRefusals sheet (stateOf (now (state .entry)))) (record { sheet = sheet; rod = stateOf (now (state .entry)) }) ⌝ }
+    ensures { λ r. ⌜ judgedMeaning sheet r ≡ firstOf (holderRefusals sheet (now (state .entry))) (record { sheet = sheet; rod = stateOf (now (state .entry)) }) ⌝ }
     ensures stands { λ r. ⌜ (r .number ≡ 0 → Stands sheet (r .reached)) ⌝ }
 {
     match state::read(state) {

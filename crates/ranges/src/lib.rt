@@ -44,7 +44,7 @@ pub const MOST_PAIRS: usize = 4096;
 pub const MOST_COUNT: u64 = 4294967295;
 
 // Rods of one section, the area of one in mm², its offset in mm, and a change of curvature in nano per mm.
-pub const MOST_RODS: usize = 32;
+pub const MOST_RODS: u64 = 32;
 
 pub const MOST_AREA: u64 = 1000000;
 

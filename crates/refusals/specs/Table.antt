@@ -3,7 +3,7 @@
 use Prim.Native.Nat.{ℕ, _+_, _*_}
 use mathlib.Core.Path.{_≡_}
 use mathlib.Core.Bool.{Bool, true, false, cond}
-use mathlib.Core.List.{List, [], _∷_, _++_}
+use mathlib.Core.List.{List, [], _∷_, _++_, map}
 use mathlib.Core.Logic.{_⊎_, _↔_}
 use lib.Dec.{eqb}
 
@@ -15,6 +15,10 @@ pub record Refusal : Type 0 where
 -- SPEC 8.1: such a line, from number and condition.
 abbrev pub refusal : ℕ → Bool → Refusal
 refusal number applies = record { number = number; applies = applies }
+
+-- SPEC 8.1: the numbers of a table, in its order.
+abbrev pub numbersOf : List Refusal → List ℕ
+numbersOf table = map (λ (r : Refusal). r .number) table
 
 -- SPEC 8.1: what a table comes to. A value passes, or is refused with a number.
 pub data Answer (A : Type 0) : Type 0 where

@@ -5,7 +5,7 @@ use mathlib.Core.List.{List, [], _∷_, _++_}
 use mathlib.Core.Bool.{Bool}
 use native.Mathlib.Omega.{arith}
 use Rattle.refusals.specs.Table.{Refusal, refusal, Answer, refused, firstOf}
-use Rattle.refusals.proofs.FirstLaws.{AllNumbers, answer-number}
+use Rattle.refusals.proofs.FirstLaws.{answer-number}
 use Rattle.sheet.specs.declared.Sheet.{Sheet}
 use Rattle.sheet.specs.Sheets.{sheetRefusals, sheetFieldRefusals}
 use Rattle.state.specs.States.{stateRefusals, stateFieldRefusals, stateOf}

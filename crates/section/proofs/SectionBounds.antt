@@ -1,33 +1,38 @@
--- How great the number and the place of a section's answer can be: one number of 64 bits holds them (SPEC 9.10).
-use Prim.Native.Nat.{ℕ, _+_, _≤_, _<_}
-use mathlib.Core.Path.{_≡_, refl, sym, ap, _∙_}
-use mathlib.Core.Bool.{Bool, true, not, _&&_}
-use mathlib.Core.List.{List, []}
-use borrow.Author.Tests.{leb-true, not-false}
+-- How great a section's answer can be: one number of 64 bits holds number and place (SPEC 9.10), and force and moment stay far below 2 ^ 63
+-- (SPEC 15.5).
+use Prim.Native.Nat.{ℕ, _*_, _≤_, _<_}
+use mathlib.Core.Path.{_≡_, refl, ap}
+use mathlib.Core.Bool.{true, not, _&&_}
+use mathlib.Core.List.{List, [], _∷_, map}
+use borrow.Author.Tests.{not-false}
 use native.Mathlib.Omega.{arith}
-use lib.Dec.{leb}
+use lib.IntN.{natAbs}
 use lib.ListN.{length}
 use Rattle.refusals.specs.Table.{Answer, passes, refused, firstOf}
-use Rattle.refusals.proofs.FirstLaws.{both-hold, three-hold, both-pass, passes-line}
-use Rattle.bits.specs.Field.{within}
-use Rattle.ranges.specs.Ranges.{around, mostRods, mostChange, mostCurvature}
+use Rattle.refusals.proofs.FirstLaws.{both-hold, both-pass, passes-line}
+use Rattle.ranges.specs.Ranges.{mostRods}
+use Rattle.units.proofs.Magnitudes.{magnitude-sum}
 use Rattle.sheet.specs.declared.Sheet.{Sheet}
+use Rattle.sheet.specs.Sound.{SheetSound}
+use Rattle.rod.specs.declared.step.Advance.{Advance}
 use Rattle.sheet.specs.Sheets.{sheetRefusals, sheetOf}
 use Rattle.section.specs.declared.Member.{Member}
 use Rattle.section.specs.declared.Change.{Change}
-use Rattle.section.specs.Sections.{allRight, callRight, sectionRefusals, Moves, all, stopped, movesFrom, settled, sectionBy, sectionLeaves}
+use Rattle.section.specs.Sections.{memberRight, allRight, callRight, sectionRefusals, forceOf, momentOf, mostForce, mostMoment, sum, Move, Moves, all, stopped, movesFrom, settled, sectionBy, sectionLeaves}
+use Rattle.section.proofs.MemberLaws.{force-most, force-magnitude, moment-most, moment-magnitude, next-stress-most}
+use Rattle.section.proofs.MovesLaws.{Pass, movesOf}
+use Rattle.section.proofs.Openings.{change-right}
 use Rattle.section.proofs.Numbers.{lines-numbered}
 use Rattle.section.proofs.SectionLaws.{stopped-at}
 
 -- A section that isn't turned away as a whole has at most 32 members.
 pub few-members : (sheet : List ℕ) (c : Change) (ms : List Member) {h : Sheet} → firstOf (sectionRefusals sheet c ms) (sheetOf sheet) ≡ passes h → length ms ≤ mostRods
-unfolding sectionRefusals callRight
+unfolding sectionRefusals
 few-members sheet c ms e =
     let both = both-pass (sheetRefusals sheet) _ (sheetOf sheet) (sheetOf sheet) e in
     let line = passes-line 14 (not (callRight (length ms) c && allRight ms)) [] (sheetOf sheet) (both .1) in
     let right = both-hold (callRight (length ms) c) (allRight ms) (not-false _ (line .0)) .0 in
-    let (count, mean, curvature) = three-hold (within 1 mostRods (length ms)) (around mostChange (c .mean .0)) (around mostCurvature (c .curvature .0)) right in
-    leb-true (length ms) mostRods (both-hold (leb 1 (length ms)) (leb (length ms) mostRods) count .1)
+    change-right (length ms) c right .1
 
 pub section-bounds : (sheet : List ℕ) (c : Change) (ms : List Member) → let r = sectionLeaves sheet c ms .reply in (r .number < 256) × (r .place ≤ mostRods)
 unfolding sectionLeaves sectionRefusals
@@ -40,3 +45,28 @@ section-bounds sheet c ms = by-lines (firstOf (sectionRefusals sheet c ms) (shee
     by-lines : (q : Answer Sheet) → firstOf (sectionRefusals sheet c ms) (sheetOf sheet) ≡ q → let r = sectionBy q c ms .reply in (r .number < 256) × (r .place ≤ mostRods)
     by-lines (refused n) e = (lines-numbered sheet (not (callRight (length ms) c && allRight ms)) (sheetOf sheet) e .1, omega arith)
     by-lines (passes h) e = by-moves (movesFrom h c 1 ms) h refl (few-members sheet c ms e)
+
+-- How great the sums over members that pass can be.
+pub sums-most : (h : Sheet) (c : Change) (ms : List Member) (advances : List Advance) → SheetSound h → allRight ms ≡ true → Pass h c ms advances
+    → let moves = movesOf h c ms advances in
+    (natAbs (sum (map (λ (v : Move). v .force) moves)) ≤ length ms * mostForce) × (natAbs (sum (map (λ (v : Move). v .moment) moves)) ≤ length ms * mostMoment)
+unfolding allRight sum
+sums-most h c [] advances sound right pass = (omega arith, omega arith)
+sums-most h c (m ∷ ms) [] sound right pass = absurd pass
+sums-most h c (m ∷ ms) (a ∷ advances) sound right (e, pass) =
+    let both = both-hold (memberRight m) (allRight ms) right in
+    let stress = a .rod .stress .0 in
+    let most = next-stress-most h c m sound e in
+    let moves = movesOf h c ms advances in
+    let (forces, moments) = sums-most h c ms advances sound (both .1) pass in (
+      omega (arith, magnitude-sum (forceOf m stress) (sum (map (λ (v : Move). v .force) moves)), forces, force-magnitude m stress (both .0) most, force-most m stress (both .0) most),
+      omega (arith, magnitude-sum (momentOf m stress) (sum (map (λ (v : Move). v .moment) moves)), moments, moment-magnitude m stress (both .0) most, moment-most m stress (both .0) most),
+    )
+
+-- All members of a section that isn't turned away as a whole are right.
+pub members-right : (sheet : List ℕ) (c : Change) (ms : List Member) {h : Sheet} → firstOf (sectionRefusals sheet c ms) (sheetOf sheet) ≡ passes h → allRight ms ≡ true
+unfolding sectionRefusals
+members-right sheet c ms e =
+    let both = both-pass (sheetRefusals sheet) _ (sheetOf sheet) (sheetOf sheet) e in
+    let line = passes-line 14 (not (callRight (length ms) c && allRight ms)) [] (sheetOf sheet) (both .1) in
+    both-hold (callRight (length ms) c) (allRight ms) (not-false _ (line .0)) .1

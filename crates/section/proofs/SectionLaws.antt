@@ -1,6 +1,6 @@
 -- The tally over the members is what a section answers, and each member's next is what it is afterwards (SPEC 15.7). Assumes nothing.
-use Prim.Native.Nat.{ℕ, zero, suc, _+_, _*_, _^_, _≤_, _<_}
-use mathlib.Core.Path.{_≡_, refl, sym, ap, ap₂, subst, _∙_}
+use Prim.Native.Nat.{ℕ, suc, _+_, _≤_, _<_}
+use mathlib.Core.Path.{_≡_, refl, sym, ap, subst, _∙_}
 use mathlib.Core.Bool.{Bool, true, false, not, _&&_, cond, true≢false}
 use mathlib.Core.List.{List, [], _∷_, _++_, map}
 use borrow.Author.Tests.{ne-eqb, eq-eqb}
@@ -9,7 +9,7 @@ use lib.Dec.{eqb}
 use lib.IntN.{ℤ, pos, natAbs, _+ℤ_, +ℤ-assoc, +ℤ-idl, +ℤ-idr}
 use lib.ListN.{length, length-append}
 use Rattle.refusals.specs.Table.{Answer, passes, refused, refusal, firstOf}
-use Rattle.refusals.proofs.FirstLaws.{both-hold, stops-first, goes-on, refused-anyhow, same-refused}
+use Rattle.refusals.proofs.FirstLaws.{both-hold, stops-first, goes-on}
 use Rattle.units.proofs.Magnitudes.{magnitude-sum}
 use Rattle.sheet.specs.declared.Sheet.{Sheet}
 use Rattle.sheet.specs.Sheets.{sheetRefusals, sheetOf}
@@ -19,21 +19,21 @@ use Rattle.section.specs.declared.Change.{Change}
 use Rattle.section.specs.declared.Movement.{Movement}
 use Rattle.section.specs.declared.Tally.{Tally}
 use Rattle.section.specs.declared.Opening.{Opening}
-use Rattle.section.specs.Sections.{memberRight, allRight, callRight, sectionRefusals, memberAnswer, forceOf, momentOf, Move, moveOf, Moves, all, stopped, movesOn, movesFrom, sum, SectionLeft, sectionLeft, settled, sectionBy, sectionLeaves}
-use Rattle.section.specs.Tallies.{endedAt, addedTo, counted, sectionsOwn, tallyOf, tallyAll, nextBy, nextOf, nextAll, settledAfter, replyOf, MovementRight, Room, Ready, openRefusals, startBy, Opened}
+use Rattle.section.specs.Sections.{memberRight, allRight, callRight, sectionRefusals, memberAnswer, forceOf, momentOf, mostForce, mostMoment, Move, moveOf, Moves, all, stopped, movesOn, movesFrom, sum, sectionLeft, settled, sectionBy, sectionLeaves}
+use Rattle.section.specs.Tallies.{bareTally, addedTo, counted, sectionsOwn, tallyOf, tallyAll, nextBy, nextOf, nextAll, settledAfter, replyOf, MovementRight, Room, GoesOn, openRefusals, startBy, Opened}
 use Rattle.section.proofs.MemberLaws.{force-most, force-magnitude, moment-most, moment-magnitude, next-stress-most}
 use Rattle.section.proofs.MovesLaws.{same-all, Pass, movesOf, pass-move, all-pass, one-stopped}
 use Rattle.section.proofs.Numbers.{Numbered, lines-numbered, member-numbered}
 
 -- ---- Room
 
--- A tally that stays has room for fewer.
-fewer : (x : Movement) (t : Tally) (n : ℕ) → Ready (suc n) x t → Ready n x t
-fewer x t n ready e =
+-- Room for more is room for fewer.
+pub fewer : (x : Movement) (t : Tally) (n k : ℕ) → k ≤ n → GoesOn n x t → GoesOn k x t
+fewer x t n k less ready e =
     let (right, room) = ready e in
-    (right, record { seen = omega (arith, room .seen); force = room .force; moment = room .moment })
+    (right, record { seen = omega (arith, room .seen, less); force = room .force; moment = room .moment })
 
-room-added : (t : Tally) (m : Member) (stress : ℤ) (n : ℕ) → Room (suc n) t → natAbs (forceOf m stress) ≤ 10 ^ 14 → natAbs (momentOf m stress) ≤ 10 ^ 17
+room-added : (t : Tally) (m : Member) (stress : ℤ) (n : ℕ) → Room (suc n) t → natAbs (forceOf m stress) ≤ mostForce → natAbs (momentOf m stress) ≤ mostMoment
     → Room n (addedTo t m stress)
 room-added t m stress n room force moment =
     record {
@@ -42,36 +42,36 @@ room-added t m stress n room force moment =
       moment = omega (arith, magnitude-sum (t .moment) (momentOf m stress), room .moment, moment);
     }
 
-pub ready-step : (x : Movement) (t : Tally) (m : Member) (n : ℕ) → Ready (suc n) x t → Ready n x (tallyOf x t m)
+pub ready-step : (x : Movement) (t : Tally) (m : Member) (n : ℕ) → GoesOn (suc n) x t → GoesOn n x (tallyOf x t m)
 unfolding tallyOf sectionsOwn
 ready-step x t m n ready = by-own (sectionsOwn t) refl
   where
-    by-answer : (a : Answer Advance) → memberAnswer (x .sheet) (x .change) m ≡ a → memberRight m ≡ true → sectionsOwn t ≡ false → Ready n x (counted t m a)
+    by-answer : (a : Answer Advance) → memberAnswer (x .sheet) (x .change) m ≡ a → memberRight m ≡ true → sectionsOwn t ≡ false → GoesOn n x (counted t m a)
     by-answer (passes a) e right goes done =
         let (whole, room) = ready goes in
         let stress = a .rod .stress .0 in
         let most = next-stress-most (x .sheet) (x .change) m (whole .sound) e in
-        let force : natAbs (forceOf m stress) ≤ 10 ^ 14 = omega (arith, force-magnitude m stress right most, force-most m stress right most) in
-        let moment : natAbs (momentOf m stress) ≤ 10 ^ 17 = omega (arith, moment-magnitude m stress right most, moment-most m stress right most) in
+        let force : natAbs (forceOf m stress) ≤ mostForce = omega (arith, force-magnitude m stress right most, force-most m stress right most) in
+        let moment : natAbs (momentOf m stress) ≤ mostMoment = omega (arith, moment-magnitude m stress right most, moment-most m stress right most) in
         (whole, room-added t m stress n room force moment)
     by-answer (refused number) e right goes done =
         let (whole, room) = ready goes in
         (whole, record { seen = omega (arith, room .seen); force = omega arith; moment = omega arith })
 
-    by-number : (b : Bool) → memberRight m ≡ true → sectionsOwn t ≡ false → Ready n x (cond b (counted t m (memberAnswer (x .sheet) (x .change) m)) t)
+    by-number : (b : Bool) → memberRight m ≡ true → sectionsOwn t ≡ false → GoesOn n x (cond b (counted t m (memberAnswer (x .sheet) (x .change) m)) t)
     by-number true right goes = by-answer (memberAnswer (x .sheet) (x .change) m) refl right goes
-    by-number false right goes = fewer x t n ready
+    by-number false right goes = fewer x t (suc n) n (omega arith) ready
 
-    by-right : (b : Bool) → memberRight m ≡ b → sectionsOwn t ≡ false → Ready n x (cond (not b) (endedAt 14 0) (cond (eqb (t .number) 0) (counted t m (memberAnswer (x .sheet) (x .change) m)) t))
+    by-right : (b : Bool) → memberRight m ≡ b → sectionsOwn t ≡ false → GoesOn n x (cond (not b) (bareTally 14 0) (cond (eqb (t .number) 0) (counted t m (memberAnswer (x .sheet) (x .change) m)) t))
     by-right true right goes = by-number (eqb (t .number) 0) right goes
     by-right false wrong goes = λ e. absurd (true≢false e)
 
-    by-own : (b : Bool) → sectionsOwn t ≡ b → Ready n x (cond b t (cond (not (memberRight m)) (endedAt 14 0) (cond (eqb (t .number) 0) (counted t m (memberAnswer (x .sheet) (x .change) m)) t)))
-    by-own true own = fewer x t n ready
+    by-own : (b : Bool) → sectionsOwn t ≡ b → GoesOn n x (cond b t (cond (not (memberRight m)) (bareTally 14 0) (cond (eqb (t .number) 0) (counted t m (memberAnswer (x .sheet) (x .change) m)) t)))
+    by-own true own = fewer x t (suc n) n (omega arith) ready
     by-own false goes = by-right (memberRight m) refl goes
 
 -- Where no number is given in the end, sheet and change were right.
-pub settled-right : (x : Movement) (t : Tally) (ms : List Member) → Ready (length ms) x t → tallyAll x t ms .number ≡ 0 → MovementRight x
+pub settled-right : (x : Movement) (t : Tally) (ms : List Member) → GoesOn (length ms) x t → tallyAll x t ms .number ≡ 0 → MovementRight x
 unfolding tallyAll sectionsOwn
 settled-right x t [] ready e = ready (rw (eq-eqb (t .number) 0 e)) .0
 settled-right x t (m ∷ ms) ready e = settled-right x (tallyOf x t m) ms (ready-step x t m (length ms) ready) e
@@ -79,20 +79,20 @@ settled-right x t (m ∷ ms) ready e = settled-right x (tallyOf x t m) ms (ready
 -- ---- The order of the numbers
 
 -- A number of the section's own stands.
-stands : (x : Movement) (n : ℕ) (ms : List Member) → (n ≡ 0 → ⊥) → tallyAll x (endedAt n 0) ms ≡ endedAt n 0
+stands : (x : Movement) (n : ℕ) (ms : List Member) → (n ≡ 0 → ⊥) → tallyAll x (bareTally n 0) ms ≡ bareTally n 0
 unfolding tallyAll tallyOf sectionsOwn
 stands x n [] some = refl
 stands x n (m ∷ ms) some = rw (ne-eqb n 0 some) (stands x n ms some)
 
 -- A rod's own gives way to 14 alone.
-waits : (x : Movement) (n place : ℕ) (ms : List Member) → (n ≡ 0 → ⊥) → tallyAll x (endedAt n (suc place)) ms ≡ cond (allRight ms) (endedAt n (suc place)) (endedAt 14 0)
+waits : (x : Movement) (n place : ℕ) (ms : List Member) → (n ≡ 0 → ⊥) → tallyAll x (bareTally n (suc place)) ms ≡ cond (allRight ms) (bareTally n (suc place)) (bareTally 14 0)
 unfolding tallyAll tallyOf sectionsOwn allRight
 waits x n place [] some = refl
 waits x n place (m ∷ ms) some = by-right (memberRight m) (waits x n place ms some)
   where
-    by-right : (b : Bool) → tallyAll x (endedAt n (suc place)) ms ≡ cond (allRight ms) (endedAt n (suc place)) (endedAt 14 0)
-        → tallyAll x (cond (not (eqb n 0) && eqb (suc place) 0) (endedAt n (suc place)) (cond (not b) (endedAt 14 0) (cond (eqb n 0) (counted (endedAt n (suc place)) m (memberAnswer (x .sheet) (x .change) m)) (endedAt n (suc place))))) ms
-        ≡ cond (b && allRight ms) (endedAt n (suc place)) (endedAt 14 0)
+    by-right : (b : Bool) → tallyAll x (bareTally n (suc place)) ms ≡ cond (allRight ms) (bareTally n (suc place)) (bareTally 14 0)
+        → tallyAll x (cond (not (eqb n 0) && eqb (suc place) 0) (bareTally n (suc place)) (cond (not b) (bareTally 14 0) (cond (eqb n 0) (counted (bareTally n (suc place)) m (memberAnswer (x .sheet) (x .change) m)) (bareTally n (suc place))))) ms
+        ≡ cond (b && allRight ms) (bareTally n (suc place)) (bareTally 14 0)
     by-right true behind = rw (ne-eqb n 0 some, ne-eqb (suc place) 0 (λ e. omega (arith, e))) behind
     by-right false behind = rw (ne-eqb n 0 some, ne-eqb (suc place) 0 (λ e. omega (arith, e))) (stands x 14 ms (λ e. omega (arith, e)))
 
@@ -108,7 +108,7 @@ so-far force moment seen = record { number = 0; place = 0; force = force; moment
 
 abbrev tallied : (force moment : ℤ) (seen : ℕ) → Moves → Tally
 tallied force moment seen (all moves) = so-far (force +ℤ forces moves) (moment +ℤ moments moves) (seen + length moves)
-tallied force moment seen (stopped number place) = endedAt number place
+tallied force moment seen (stopped number place) = bareTally number place
 
 module _ (x : Movement) where
   abbrev answer : Member → Answer Advance
@@ -119,7 +119,7 @@ module _ (x : Movement) where
 
   -- The tally of all is that of the moves, and 14 where a member isn't right.
   tallies : (ms : List Member) (force moment : ℤ) (seen : ℕ)
-      → tallyAll x (so-far force moment seen) ms ≡ cond (allRight ms) (tallied force moment seen (moves (seen + 1) ms)) (endedAt 14 0)
+      → tallyAll x (so-far force moment seen) ms ≡ cond (allRight ms) (tallied force moment seen (moves (seen + 1) ms)) (bareTally 14 0)
   unfolding tallyAll tallyOf sectionsOwn allRight movesFrom sum
   tallies [] force moment seen =
       let f = sym (+ℤ-idr force) in
@@ -141,20 +141,20 @@ module _ (x : Movement) where
       one-more a (stopped number place) = refl
 
       by-answer : (a : Answer Advance) → answer m ≡ a
-          → ((f k : ℤ) (n : ℕ) → tallyAll x (so-far f k n) ms ≡ cond (allRight ms) (tallied f k n (moves (n + 1) ms)) (endedAt 14 0))
-          → tallyAll x (counted (so-far force moment seen) m a) ms ≡ cond (allRight ms) (tallied force moment seen (movesOn m (seen + 1) a (moves (seen + 1 + 1) ms))) (endedAt 14 0)
+          → ((f k : ℤ) (n : ℕ) → tallyAll x (so-far f k n) ms ≡ cond (allRight ms) (tallied f k n (moves (n + 1) ms)) (bareTally 14 0))
+          → tallyAll x (counted (so-far force moment seen) m a) ms ≡ cond (allRight ms) (tallied force moment seen (movesOn m (seen + 1) a (moves (seen + 1 + 1) ms))) (bareTally 14 0)
       by-answer (passes a) e behind =
           behind (force +ℤ forceOf m (a .rod .stress .0)) (moment +ℤ momentOf m (a .rod .stress .0)) (seen + 1)
-          ∙ ap (λ (t : Tally). cond (allRight ms) t (endedAt 14 0)) (one-more a (moves (seen + 1 + 1) ms))
+          ∙ ap (λ (t : Tally). cond (allRight ms) t (bareTally 14 0)) (one-more a (moves (seen + 1 + 1) ms))
       by-answer (refused n) e behind =
           let place : seen + 1 ≡ suc seen = omega arith in
-          subst (λ (p : ℕ). tallyAll x (endedAt n p) ms ≡ cond (allRight ms) (endedAt n p) (endedAt 14 0)) (sym place)
+          subst (λ (p : ℕ). tallyAll x (bareTally n p) ms ≡ cond (allRight ms) (bareTally n p) (bareTally 14 0)) (sym place)
           (waits x n seen ms (member-numbered (x .sheet) (x .change) m e .0))
 
       by-right : (b : Bool) (a : Answer Advance) → answer m ≡ a
-          → ((f k : ℤ) (n : ℕ) → tallyAll x (so-far f k n) ms ≡ cond (allRight ms) (tallied f k n (moves (n + 1) ms)) (endedAt 14 0))
-          → tallyAll x (cond (not b) (endedAt 14 0) (counted (so-far force moment seen) m a)) ms
-          ≡ cond (b && allRight ms) (tallied force moment seen (movesOn m (seen + 1) a (moves (seen + 1 + 1) ms))) (endedAt 14 0)
+          → ((f k : ℤ) (n : ℕ) → tallyAll x (so-far f k n) ms ≡ cond (allRight ms) (tallied f k n (moves (n + 1) ms)) (bareTally 14 0))
+          → tallyAll x (cond (not b) (bareTally 14 0) (counted (so-far force moment seen) m a)) ms
+          ≡ cond (b && allRight ms) (tallied force moment seen (movesOn m (seen + 1) a (moves (seen + 1 + 1) ms))) (bareTally 14 0)
       by-right true a e behind = by-answer a e behind
       by-right false a e behind = stands x 14 ms (λ z. omega (arith, z))
 
@@ -204,7 +204,7 @@ module _ (sheet : List ℕ) (c : Change) (ms after : List Member) (o : Opening) 
   whole = record { sheet = sheetOf sheet; change = c }
 
   -- A tally that ended with a number leaves the members as they were.
-  refused-is : (n p : ℕ) → (n ≡ 0 → ⊥) → tallyAll (o .movement) (o .start) ms ≡ endedAt n p
+  refused-is : (n p : ℕ) → (n ≡ 0 → ⊥) → tallyAll (o .movement) (o .start) ms ≡ bareTally n p
       → sectionLeft (replyOf t) after ≡ sectionLeft (record { number = n; place = p; force = pos 0; moment = pos 0 }) ms
   unfolding settledAfter
   refused-is n p some is =
@@ -229,11 +229,11 @@ module _ (sheet : List ℕ) (c : Change) (ms after : List Member) (o : Opening) 
   by-right : (r : Bool) → allRight ms ≡ r → o .movement ≡ whole → o .start ≡ so-far (pos 0) (pos 0) 0
       → sectionLeft (replyOf t) after ≡ sectionBy (cond (not r) (refused 14) (passes (sheetOf sheet))) c ms
   by-right r right is start =
-      let all-are : tallyAll (o .movement) (o .start) ms ≡ cond r (tallied (pos 0) (pos 0) 0 (movesFrom (sheetOf sheet) c 1 ms)) (endedAt 14 0) =
-      (λ i. tallyAll (is i) (start i) ms) ∙ tallies whole ms (pos 0) (pos 0) 0 ∙ ap (λ (b : Bool). cond b (tallied (pos 0) (pos 0) 0 (movesFrom (sheetOf sheet) c 1 ms)) (endedAt 14 0)) right in
+      let all-are : tallyAll (o .movement) (o .start) ms ≡ cond r (tallied (pos 0) (pos 0) 0 (movesFrom (sheetOf sheet) c 1 ms)) (bareTally 14 0) =
+      (λ i. tallyAll (is i) (start i) ms) ∙ tallies whole ms (pos 0) (pos 0) 0 ∙ ap (λ (b : Bool). cond b (tallied (pos 0) (pos 0) 0 (movesFrom (sheetOf sheet) c 1 ms)) (bareTally 14 0)) right in
       by r right all-are
     where
-      by : (r : Bool) → allRight ms ≡ r → tallyAll (o .movement) (o .start) ms ≡ cond r (tallied (pos 0) (pos 0) 0 (movesFrom (sheetOf sheet) c 1 ms)) (endedAt 14 0)
+      by : (r : Bool) → allRight ms ≡ r → tallyAll (o .movement) (o .start) ms ≡ cond r (tallied (pos 0) (pos 0) 0 (movesFrom (sheetOf sheet) c 1 ms)) (bareTally 14 0)
           → sectionLeft (replyOf t) after ≡ sectionBy (cond (not r) (refused 14) (passes (sheetOf sheet))) c ms
       by true right all-are = by-moves (movesFrom (sheetOf sheet) c 1 ms) refl right is all-are
       by false right all-are = refused-is 14 0 (λ e. omega (arith, e)) all-are

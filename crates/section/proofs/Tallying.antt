@@ -10,8 +10,8 @@ use borrow.Author.Tests.{eq-eqb, ne-eqb}
 use Rattle.section.specs.declared.Member.{Member}
 use Rattle.section.specs.declared.Movement.{Movement}
 use Rattle.section.specs.declared.Tally.{Tally}
-use Rattle.section.specs.Tallies.{Ready, tallyOf, tallyAll, nextAll, settledAfter}
-use Rattle.section.proofs.SectionLaws.{ready-step}
+use Rattle.section.specs.Tallies.{GoesOn, tallyOf, tallyAll, nextAll, settledAfter}
+use Rattle.section.proofs.SectionLaws.{fewer, ready-step}
 
 module _ (x : Movement) where
   unfoldable pub tallyTo : ℕ → Tally → List Member → Tally
@@ -37,18 +37,11 @@ module _ (x : Movement) where
   unfolding tallyTo
   tallyTo-all i t ms l = ap (tallyAll x t) (take-all i ms l)
 
-  -- Room for more is room for one,
-  ready-one : (t : Tally) (n : ℕ) → Ready (suc n) x t → Ready 1 x t
-  ready-one t n r e =
-      let room = r e .1 in
-      let seen = room .seen in
-      (r e .0, record { seen = omega arith; force = room .force; moment = room .moment })
-
-  -- so with room for all members there is room for each when it comes.
-  pub ready-to : (i : ℕ) (t : Tally) (ms : List Member) → Ready (length ms) x t → i < length ms → Ready 1 x (tallyTo i t ms)
+  -- With room for all members there is room for each when it comes.
+  pub ready-to : (i : ℕ) (t : Tally) (ms : List Member) → GoesOn (length ms) x t → i < length ms → GoesOn 1 x (tallyTo i t ms)
   unfolding tallyTo tallyAll
   ready-to i t [] r l = absurd (omega arith)
-  ready-to zero t (m ∷ ms) r l = ready-one t (length ms) r
+  ready-to zero t (m ∷ ms) r l = fewer x t (suc (length ms)) 1 (omega arith) r
   ready-to (suc i) t (m ∷ ms) r l = ready-to i (tallyOf x t m) ms (ready-step x t m (length ms) r) (omega arith)
 
   -- What the members are afterwards: moved where no number was given, and else as they were.

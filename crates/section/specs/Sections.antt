@@ -1,6 +1,6 @@
--- A section (SPEC 15): what a call answers and what every member is after it, over the members as a list; cited by this crate, tie_rod_c and
+-- A section (SPEC 15): what a call answers and what every member is after it, over the members as a list; cited by this crate, section_c and
 -- the demands. Definitions only, for any bytes, any numbers and any members; nothing is assumed.
-use Prim.Native.Nat.{ℕ, zero, suc, _+_, _/_}
+use Prim.Native.Nat.{ℕ, _+_, _*_, _/_}
 use mathlib.Core.Bool.{Bool, true, not, _&&_}
 use mathlib.Core.List.{List, [], _∷_, _++_, map}
 use lib.ListN.{length}
@@ -9,16 +9,16 @@ use Rattle.refusals.specs.Table.{Refusal, refusal, Answer, passes, refused, fir
 use Rattle.units.specs.Kinds.{nano, tenths, curvature}
 use Rattle.units.specs.Signs.{isNeg, withSign}
 use Rattle.bits.specs.Field.{within}
-use Rattle.ranges.specs.Ranges.{around, grains, mostChange, mostRods, mostArea, mostOffset, mostCurvature}
+use Rattle.ranges.specs.Ranges.{around, grains, mostChange, mostStress, mostRods, mostArea, mostOffset, mostCurvature}
 use Rattle.sheet.specs.declared.Sheet.{Sheet}
 use Rattle.sheet.specs.Sheets.{sheetRefusals, sheetOf}
 use Rattle.pair.specs.declared.Pair.{Pair}
 use Rattle.pair.specs.Pairs.{pairInRange}
-use Rattle.state.specs.States.{stateRefusals, stateOf, stateBytes}
-use Rattle.rod.specs.Against.{againstRefusals}
+use Rattle.state.specs.States.{stateOf, stateBytes}
 use Rattle.rod.specs.declared.Rod.{Rod}
 use Rattle.rod.specs.declared.step.Advance.{Advance}
 use Rattle.rod.specs.Steps.{advanceOf, stepRefusals}
+use Rattle.judge.specs.Standing.{holderRefusals}
 use Rattle.section.specs.declared.Member.{Member}
 use Rattle.section.specs.declared.Change.{Change}
 use Rattle.section.specs.declared.SectionReply.{SectionReply}
@@ -38,7 +38,7 @@ unfoldable pub allRight : List Member → Bool
 allRight [] = true
 allRight (m ∷ members) = memberRight m && allRight members
 
--- SPEC 15.3: how many members there are, by that number alone, and the change of mean strain and of curvature are in their ranges.
+-- SPEC 15.2, 15.3: so many members may be tied to one plate, and the changes of mean strain and of curvature are in their ranges.
 unfoldable pub callRight : (members : ℕ) → Change → Bool
 callRight members c = within 1 mostRods members && around mostChange (c .mean .0) && around mostCurvature (c .curvature .0)
 
@@ -56,14 +56,14 @@ memberPair c m = record { change = nano (c .mean .0 +ℤ c .curvature .0 *ℤ m 
 -- 9, 11 and 10 of the step.
 unfoldable pub memberTable : Sheet → Change → Member → List Refusal
 memberTable h c m =
-    (stateRefusals (m .state) ++ againstRefusals h (stateOf (m .state)))
+    holderRefusals h (m .state)
     ++ (refusal 8 (not (pairInRange (memberPair c m))) ∷ stepRefusals h (stateOf (m .state)) (memberPair c m))
 
 -- SPEC 15.4: what they answer; a member that passes has the next state and the row of its pair.
 unfoldable pub memberAnswer : Sheet → Change → Member → Answer Advance
 memberAnswer h c m = firstOf (memberTable h c m) (advanceOf h (stateOf (m .state)) (memberPair c m))
 
--- SPEC 15.5: a stress in grains, cut toward zero to 10⁻³ MPa: the magnitude is divided, and the sign put back.
+-- SPEC 15.5: a stress of so many grains in whole 10⁻³ MPa, rounded toward zero: the magnitude is divided, and the sign put back.
 abbrev pub cutStress : ℤ → ℤ
 cutStress stress = withSign (isNeg stress) (natAbs stress / grains)
 
@@ -71,11 +71,18 @@ cutStress stress = withSign (isNeg stress) (natAbs stress / grains)
 abbrev pub forceOf : Member → (stress : ℤ) → ℤ
 forceOf m stress = cutStress stress *ℤ pos (m .area)
 
--- its moment,
+-- and its moment.
 abbrev pub momentOf : Member → (stress : ℤ) → ℤ
 momentOf m stress = forceOf m stress *ℤ m .offset
 
--- and the member with the state of a rod.
+-- SPEC 15.5: how great they can be for one member, in magnitude.
+abbrev pub mostForce : ℕ
+mostForce = mostStress / grains * mostArea
+
+abbrev pub mostMoment : ℕ
+mostMoment = mostForce * mostOffset
+
+-- SPEC 15.6: the member with the state of a rod.
 abbrev pub withState : Member → Rod → Member
 withState m r = record { area = m .area; offset = m .offset; state = stateBytes r }
 

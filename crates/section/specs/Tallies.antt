@@ -1,6 +1,6 @@
 -- How the code comes to what a section leaves: a tally over the members, one after another, and each member's next (SPEC 15.7), cited by
 -- this crate's contracts; definitions only, nothing is assumed. proofs/SectionLaws shows that this is `sectionLeaves`.
-use Prim.Native.Nat.{ℕ, _+_, _*_, _^_, _≤_}
+use Prim.Native.Nat.{ℕ, _+_, _*_, _≤_}
 use mathlib.Core.Path.{_≡_}
 use mathlib.Core.Bool.{Bool, true, false, not, _&&_, cond}
 use mathlib.Core.List.{List, [], _∷_, _++_, map}
@@ -20,11 +20,11 @@ use Rattle.section.specs.declared.Opening.{Opening}
 use Rattle.section.specs.declared.SectionReply.{SectionReply}
 use Rattle.section.specs.declared.MemberTried.{MemberTried}
 use Rattle.section.specs.declared.MemberTried.the-variants as tried
-use Rattle.section.specs.Sections.{callRight, memberRight, memberAnswer, forceOf, momentOf, withState}
+use Rattle.section.specs.Sections.{callRight, memberRight, memberAnswer, forceOf, momentOf, withState, mostForce, mostMoment}
 
 -- SPEC 8.8: the number, or the rod, that each case of trying a member stands for,
 abbrev pub memberMeaning : MemberTried → Answer Rod
-memberMeaning (tried.Moves r) = passes r
+memberMeaning (tried.Accepted r) = passes r
 memberMeaning (tried.Refused number) = refused number
 
 -- and what the member's lines answer, without the row.
@@ -32,9 +32,9 @@ abbrev pub rodOf : Answer Advance → Answer Rod
 rodOf (passes a) = passes (a .rod)
 rodOf (refused number) = refused number
 
--- SPEC 15.7: a tally that a refusal ended.
-abbrev pub endedAt : (number place : ℕ) → Tally
-endedAt number place = record { number = number; place = place; force = pos 0; moment = pos 0; seen = 0 }
+-- SPEC 15.7: a tally without force and moment: a refusal with its place, or, with 0 and 0, where no rod is looked at yet.
+abbrev pub bareTally : (number place : ℕ) → Tally
+bareTally number place = record { number = number; place = place; force = pos 0; moment = pos 0; seen = 0 }
 
 -- SPEC 15.7: one rod more: its parts are added, or its refusal ends the tally with its place.
 abbrev pub addedTo : Tally → Member → (stress : ℤ) → Tally
@@ -43,9 +43,9 @@ addedTo t m stress =
 
 abbrev pub counted : Tally → Member → Answer Advance → Tally
 counted t m (passes a) = addedTo t m (a .rod .stress .0)
-counted t m (refused number) = endedAt number (t .seen + 1)
+counted t m (refused number) = bareTally number (t .seen + 1)
 
--- SPEC 15.7: a number of the section's own has no place, and stands.
+-- SPEC 15.7: a number of the section's own has no place; no member changes it.
 unfoldable pub sectionsOwn : Tally → Bool
 sectionsOwn t = not (eqb (t .number) 0) && eqb (t .place) 0
 
@@ -53,7 +53,7 @@ sectionsOwn t = not (eqb (t .number) 0) && eqb (t .place) 0
 unfoldable pub tallyOf : Movement → Tally → Member → Tally
 tallyOf x t m =
     cond (sectionsOwn t) t
-    (cond (not (memberRight m)) (endedAt 14 0)
+    (cond (not (memberRight m)) (bareTally 14 0)
     (cond (eqb (t .number) 0) (counted t m (memberAnswer (x .sheet) (x .change) m)) t))
 
 unfoldable pub tallyAll : Movement → Tally → List Member → Tally
@@ -92,23 +92,23 @@ pub record MovementRight (x : Movement) : Type 0 where
 -- SPEC 15.7: room in a tally for so many rods more: with 32 of them no sum leaves 64 bits.
 pub record Room (rods : ℕ) (t : Tally) : Type 0 where
   pub seen : t .seen + rods ≤ mostRods
-  pub force : natAbs (t .force) ≤ t .seen * 10 ^ 14
-  pub moment : natAbs (t .moment) ≤ t .seen * 10 ^ 17
+  pub force : natAbs (t .force) ≤ t .seen * mostForce
+  pub moment : natAbs (t .moment) ≤ t .seen * mostMoment
 
 -- SPEC 15.7: what holds of a tally that no number of the section's own has ended.
-abbrev pub Ready : (rods : ℕ) → Movement → Tally → Type 0
-Ready rods x t = sectionsOwn t ≡ false → MovementRight x × Room rods t
+abbrev pub GoesOn : (rods : ℕ) → Movement → Tally → Type 0
+GoesOn rods x t = sectionsOwn t ≡ false → MovementRight x × Room rods t
 
 -- SPEC 15.7: the lines that are decided before the first member.
 unfoldable pub openRefusals : (sheet : List ℕ) → (members : ℕ) → Change → List Refusal
 openRefusals sheet members c = sheetRefusals sheet ++ (refusal 14 (not (callRight members c)) ∷ [])
 
 abbrev pub startBy : {A : Type 0} → Answer A → Tally
-startBy (passes _) = endedAt 0 0
-startBy (refused number) = endedAt number 0
+startBy (passes _) = bareTally 0 0
+startBy (refused number) = bareTally number 0
 
 -- SPEC 15.7: what the code begins with.
 pub record Opened (sheet : List ℕ) (members : ℕ) (c : Change) (o : Opening) : Type 0 where
   pub start : o .start ≡ startBy (firstOf (openRefusals sheet members c) (sheetOf sheet))
   pub movement : o .start .number ≡ 0 → o .movement ≡ record { sheet = sheetOf sheet; change = c }
-  pub ready : Ready members (o .movement) (o .start)
+  pub ready : GoesOn members (o .movement) (o .start)

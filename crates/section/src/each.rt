@@ -3,24 +3,19 @@ use crate::Change;
 use crate::Member;
 use crate::MemberTried;
 use crate::Movement;
-use crate::Opening;
-use crate::SectionReply;
 use crate::Tally;
 use carry::Tried;
 use pair::Pair;
 use rod::Rod;
-use units::Curvature;
 use units::Grain;
-use units::Nano;
-use units::Tenths;
 ghost use mathlib.Core.Path.{_≡_};
 ghost use mathlib.Core.Bool.{true};
 ghost use Prim.Native.Nat.{_/_, _≤_};
 ghost use lib.IntN.{natAbs};
 ghost use Rattle.ranges.specs.Ranges.{mostStress};
 ghost use Rattle.state.specs.States.{StateFits};
-ghost use Rattle.section.specs.Sections.{callRight, changeOf, cutStress, memberAnswer, memberPair, memberRight, withState};
-ghost use Rattle.section.specs.Tallies.{ChangeRight, MovementRight, Opened, Ready, Room, addedTo, endedAt, memberMeaning, nextOf, replyOf, rodOf, sectionsOwn, tallyOf};
+ghost use Rattle.section.specs.Sections.{cutStress, memberAnswer, memberPair, memberRight, withState};
+ghost use Rattle.section.specs.Tallies.{ChangeRight, GoesOn, MovementRight, Room, addedTo, bareTally, memberMeaning, nextOf, rodOf, sectionsOwn, tallyOf};
 
 // Area and offset are in their ranges.
 fn right(member: Member) -> bool
@@ -48,7 +43,7 @@ fn pair_at(change: Change, member: Member) -> Pair
     }
 }
 
-// Tries a rod as a single pair does (SPEC 15.4): 5 and 6 of its state, 8 of the pair, 9, 11 and 10 of the step. The row goes nowhere.
+// Tries a rod as a single pair does (SPEC 15.4): 5 and 6 of its state, 8 of the pair, 9, 11 and 10 of the step. A section has no rows.
 fn tried(movement: Movement, member: Member) -> MemberTried
     requires { ⌜ MovementRight movement × (memberRight member ≡ true) ⌝ }
     ensures { λ r. ⌜ memberMeaning r ≡ rodOf (memberAnswer (movement .sheet) (movement .change) member) ⌝ }
@@ -70,13 +65,13 @@ fn tried(movement: Movement, member: Member) -> MemberTried
         Tried::Accepted(carried) => {
             let to = carried.to;
             let rod = to.rod;
-            MemberTried::Moves(rod)
+            MemberTried::Accepted(rod)
         }
         Tried::Refused(number) => MemberTried::Refused(number),
     }
 }
 
-// A stress cut toward zero to 10⁻³ MPa (SPEC 15.5): the magnitude is divided, and the sign put back.
+// A stress in whole 10⁻³ MPa, rounded toward zero (SPEC 15.5): the magnitude is divided, and the sign put back.
 fn cut(stress: Grain) -> i64
     ensures { λ r. ⌜ r ≡ cutStress (stress .0) ⌝ }
 {
@@ -85,9 +80,9 @@ fn cut(stress: Grain) -> i64
     units::with_sign(stress.negative(), whole)
 }
 
-// A tally that a refusal ended.
-fn ended(number: u64, place: u64) -> Tally
-    ensures { λ r. ⌜ r ≡ endedAt number place ⌝ }
+// A tally without force and moment: a refusal with its place, or where no rod is looked at yet.
+pub(crate) fn bare(number: u64, place: u64) -> Tally
+    ensures { λ r. ⌜ r ≡ bareTally number place ⌝ }
 {
     Tally {
         number: number,
@@ -126,27 +121,27 @@ fn sections_own(tally: Tally) -> bool
 
 // The tally with one rod more. 14 for a later member goes before the number of a rod seen already.
 pub(crate) fn tally(tally: Tally, member: Member, movement: Movement) -> Tally
-    requires { ⌜ Ready 1 movement tally ⌝ }
+    requires { ⌜ GoesOn 1 movement tally ⌝ }
     ensures { λ r. ⌜ r ≡ tallyOf movement tally member ⌝ }
 {
     if sections_own(tally) {
         return tally;
     }
     if !right(member) {
-        return ended(14, 0);
+        return bare(14, 0);
     }
     let number = tally.number;
     if number != 0 {
         return tally;
     }
     match tried(movement, member) {
-        MemberTried::Moves(rod) => {
+        MemberTried::Accepted(rod) => {
             let stress = rod.stress;
             added(tally, member, stress)
         }
         MemberTried::Refused(refusal) => {
             let place = tally.seen + 1;
-            ended(refusal, place)
+            bare(refusal, place)
         }
     }
 }
@@ -165,7 +160,7 @@ fn with_state(member: Member, rod: Rod) -> Member
     }
 }
 
-// A member after a call that no rod refuses.
+// A member after a call. One that is refused stays; `settle` doesn't come here then.
 pub(crate) fn next(member: Member, movement: Movement) -> Member
     requires { ⌜ MovementRight movement ⌝ }
     ensures { λ r. ⌜ r ≡ nextOf movement member ⌝ }
@@ -174,69 +169,7 @@ pub(crate) fn next(member: Member, movement: Movement) -> Member
         return member;
     }
     match tried(movement, member) {
-        MemberTried::Moves(rod) => with_state(member, rod),
+        MemberTried::Accepted(rod) => with_state(member, rod),
         MemberTried::Refused(_) => member,
-    }
-}
-
-// How many rods there are, and the change, are in their ranges.
-fn call_right(members: usize, change: Change) -> bool
-    ensures { λ r. ⌜ r ≡ callRight members change ⌝ }
-{
-    let rods = members as u64;
-    let most = ranges::MOST_RODS as u64;
-    let mean = change.mean.0;
-    let curvature = change.curvature.0;
-    if !ranges::within(1, most, rods) {
-        return false;
-    }
-    ranges::within_signed(ranges::LEAST_CHANGE, ranges::MOST_CHANGE, mean)
-        && ranges::within_signed(ranges::LEAST_CURVATURE, ranges::MOST_CURVATURE, curvature)
-}
-
-// What is decided before the first rod: the sheet's numbers, and 14 as far as the call itself has it.
-pub(crate) fn open(
-    sheet: &[u8],
-    members: usize,
-    mean: i64,
-    curvature: i64,
-    temperature: i64,
-) -> Opening
-    ensures { λ r. ⌜ Opened (now (sheet .entry)) members (changeOf mean curvature temperature) r ⌝ }
-{
-    let read = sheet::read(sheet);
-    let verdict = read.verdict;
-    let values = read.sheet;
-    let change = Change {
-        mean: Nano(mean),
-        curvature: Curvature(curvature),
-        temperature: Tenths(temperature),
-    };
-    let movement = Movement {
-        sheet: values,
-        change: change,
-    };
-    let author = judge::sheet_number(verdict);
-    if author != 0 {
-        let start = ended(author, 0);
-        return Opening { movement, start };
-    }
-    if !call_right(members, change) {
-        let start = ended(14, 0);
-        return Opening { movement, start };
-    }
-    let start = ended(0, 0);
-    Opening { movement, start }
-}
-
-// What a tally answers.
-pub(crate) fn reply(tally: Tally) -> SectionReply
-    ensures { λ r. ⌜ r ≡ replyOf tally ⌝ }
-{
-    SectionReply {
-        number: tally.number,
-        place: tally.place,
-        force: tally.force,
-        moment: tally.moment,
     }
 }

@@ -32,7 +32,7 @@ pub struct Movement {
 
 // What trying a rod answers: the rod after its pair, or the number of its refusal.
 pub enum MemberTried {
-    Moves(Rod),
+    Accepted(Rod),
     Refused(u64),
 }
 

@@ -5,11 +5,11 @@ use crate::Tally;
 use crate::each;
 ghost use mathlib.Core.Path.{_≡_};
 ghost use lib.ListN.{length};
-ghost use Rattle.section.specs.Tallies.{MovementRight, Ready, nextAll, settledAfter, tallyAll};
+ghost use Rattle.section.specs.Tallies.{MovementRight, GoesOn, nextAll, settledAfter, tallyAll};
 
 // Decides for every rod; none is moved.
 pub(crate) fn decide(members: &[Member], movement: Movement, start: Tally) -> Tally
-    requires { ⌜ Ready (length (now members)) movement start ⌝ }
+    requires { ⌜ GoesOn (length (now members)) movement start ⌝ }
     ensures { λ r. ⌜ r ≡ tallyAll movement start (now (members .entry)) ⌝ }
 {
     let mut tally = start;
@@ -22,7 +22,7 @@ pub(crate) fn decide(members: &[Member], movement: Movement, start: Tally) -> Ta
 }
 
 // Moves every rod.
-pub(crate) fn keep(members: &mut [Member], movement: Movement)
+pub(crate) fn store(members: &mut [Member], movement: Movement)
     requires { ⌜ MovementRight movement ⌝ }
     ensures { λ _. ⌜ now (members .exit) ≡ nextAll movement (now (members .entry)) ⌝ }
 {
@@ -35,13 +35,13 @@ pub(crate) fn keep(members: &mut [Member], movement: Movement)
 
 // Moves every rod where none is refused, and else none.
 pub(crate) fn settle(members: &mut [Member], movement: Movement, start: Tally) -> Tally
-    requires { ⌜ Ready (length (now members)) movement start ⌝ }
+    requires { ⌜ GoesOn (length (now members)) movement start ⌝ }
     ensures { λ r. ⌜ (r ≡ tallyAll movement start (now (members .entry))) × (now (members .exit) ≡ settledAfter movement start (now (members .entry))) ⌝ }
 {
     let tally = decide(members, movement, start);
     let number = tally.number;
     if number == 0 {
-        keep(members, movement);
+        store(members, movement);
     }
     tally
 }

@@ -8,12 +8,16 @@ use lib.Dec.{T, ltb}
 use lib.IntN.{ℤ, pos, negsuc, negℤ, natAbs, _+ℤ_, _-ℤ_, _*ℤ_}
 use lib.Signed.{leZ, ltZ, mag, nonNeg}
 use borrow.Author.Tests.{ltb-true, le-ltb, leb-true}
-use Rattle.units.specs.Signs.{isNeg}
+use Rattle.units.specs.Signs.{isNeg, withSign}
 
 pub magnitude-negated : (z : ℤ) → natAbs (negℤ z) ≡ natAbs z
 magnitude-negated (pos zero) = refl
 magnitude-negated (pos (suc n)) = refl
 magnitude-negated (negsuc n) = refl
+
+pub magnitude-signed : (t : Bool) (n : ℕ) → natAbs (withSign t n) ≡ n
+magnitude-signed true n = magnitude-negated (pos n)
+magnitude-signed false n = refl
 
 -- a - (b + 1), whichever sign the test chose
 magnitude-of-choice : (t : Bool) (a b : ℕ) → natAbs (cond t (negsuc (suc b - suc a)) (pos (a - suc b))) ≤ a + suc b

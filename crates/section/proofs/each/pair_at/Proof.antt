@@ -1,7 +1,7 @@
 use borrow.Author.Needs.{needs}
 use native.Mathlib.Omega.{arith}
 use Prim.Native.Nat.{_*_, _≤_}
-use mathlib.Core.Path.{_≡_, sym, ap, _∙_}
+use mathlib.Core.Path.{_≡_, _∙_}
 use lib.IntN.{ℤ, natAbs, _+ℤ_, _*ℤ_}
 use mir.Facts.{toZ-ofZ}
 use mir.Syntax.{w64}

@@ -1,5 +1,3 @@
-use mathlib.Core.Path.{_≡_, refl, ap}
-use mathlib.Core.Bool.{Bool, false, not, _&&_}
 use borrow.Author.Tests.{eq-eqb, ne-eqb}
 use lib.Dec.{eqb}
 use Rattle.section.specs.Tallies.{sectionsOwn}

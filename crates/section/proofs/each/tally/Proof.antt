@@ -32,7 +32,7 @@ returns-2 : tie.Need-returns-2
 unfolding tallyOf
 returns-2 c =
     let test = c .before in
-    c .ended .ensures ∙ simp (not-own (test .before .before), sym (test .before .right .ensures) ∙ not-true _ (test .if2 .taken))
+    c .bare .ensures ∙ simp (not-own (test .before .before), sym (test .before .right .ensures) ∙ not-true _ (test .if2 .taken))
 
 returns-3 : tie.Need-returns-3
 unfolding tallyOf
@@ -86,7 +86,7 @@ returns-5 c =
     let none = tried .before in
     let right = none .before in
     let s = right .before .before .before .before in
-    c .ended2 .ensures
+    c .bare2 .ensures
     ∙ simp (not-own (right .before .before), right-is right, eq-eqb (s .args .tally .number) 0 (omega (arith, none .if3 .left)), rod-refused (answer s) (ap memberMeaning (sym (refusal .refusal .given .1)) ∙ tried .tried .ensures))
 
 pub tally-spec : {M : Type 1} → statement M

@@ -2,17 +2,15 @@ use borrow.Author.Needs.{needs}
 use borrow.Author.Tests.{not-true, not-false}
 use mathlib.Core.Path.{_≡_, sym, ap, _∙_}
 use mathlib.Core.Bool.{true, false}
-use mathlib.Core.List.{_++_}
 use Rattle.refusals.specs.Table.{Answer, passes, firstOf}
 use Rattle.refusals.proofs.FirstLaws.{passes-given}
 use Rattle.pair.specs.Pairs.{pairInRange}
-use Rattle.state.specs.States.{stateOf, stateRefusals}
-use Rattle.rod.specs.Against.{againstRefusals}
+use Rattle.state.specs.States.{stateOf}
 use Rattle.rod.specs.declared.step.Advance.{Advance}
 use Rattle.rod.specs.Steps.{advanceOf, stepRefusals}
 use Rattle.carry.specs.Reaching.{triedMeaning, withReached}
 use Rattle.carry.proofs.ReachedLaws.{tried-accepted, tried-refused}
-use Rattle.judge.specs.Standing.{Ready}
+use Rattle.judge.specs.Standing.{Ready, holderRefusals}
 use Rattle.judge.proofs.JudgeLaws.{number-refused, number-passes}
 use Rattle.section.specs.Sections.{memberAnswer, memberPair}
 use Rattle.section.specs.Tallies.{rodOf}
@@ -26,7 +24,7 @@ ready s = record { sheet = s .args .movement .sheet; rod = stateOf (s .args .mem
 
 -- the state passes
 state-passed : (c : tie.Else1) → let start = c .before .before .before .before .before .before in
-    firstOf (stateRefusals (start .args .member .state) ++ againstRefusals (start .args .movement .sheet) (stateOf (start .args .member .state))) (ready start)
+    firstOf (holderRefusals (start .args .movement .sheet) (start .args .member .state)) (ready start)
     ≡ passes (record { sheet = start .args .movement .sheet; rod = c .before .judge-state .result .reached .rod })
 state-passed c = number-passes (c .before .judge-state .result .number) _ (c .before .judge-state .ensures .0) (c .if1 .left)
 

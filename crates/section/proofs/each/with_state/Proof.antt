@@ -1,13 +1,12 @@
 use borrow.Author.Needs.{needs}
 use native.Mathlib.Omega.{arith}
-use mathlib.Core.Path.{_≡_, sym, ap, _∙_}
+use mathlib.Core.Path.{_≡_, sym, _∙_}
 use lib.ListN.{length}
 use mir.Facts.{toZ-ofZ}
 use mir.Syntax.{w64}
 use Rattle.bits.proofs.PutLaws.{put-whole}
 use Rattle.state.specs.States.{stateLength, stateBytes}
 use Rattle.state.proofs.RoundTrip.{length-state}
-use Rattle.section.specs.Sections.{withState}
 use Rattle.section.proofs.each.with_state.Statement.{statement}
 use Rattle.section.proofs.each.with_state.Tie as tie
 

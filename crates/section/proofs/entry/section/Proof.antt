@@ -51,7 +51,7 @@ use Rattle.section.specs.declared.Opening.{Opening}
 use Rattle.section.specs.declared.SectionReply.{SectionReply}
 use Rattle.section.specs.declared.Tally.{Tally}
 use Rattle.section.specs.Sections.{changeOf, sectionLeaves, sectionLeft}
-use Rattle.section.specs.Tallies.{Opened, Ready, replyOf, settledAfter, tallyAll}
+use Rattle.section.specs.Tallies.{Opened, GoesOn, replyOf, settledAfter, tallyAll}
 use Rattle.section.proofs.SectionLaws.{section-is}
 use Rattle.section.proofs.Parts.{Members, Movements, Tallies, Openings, Replies, movementVal, tallyVal, openingVal, word}
 use Rattle.section.proofs.Movement as X
@@ -62,18 +62,18 @@ use Rattle.section.proofs.Opening as O
 use Rattle.section.proofs.Opening.Laws as O′
 use Rattle.section.proofs.SectionReply as Y
 use Rattle.section.proofs.SectionReply.Laws as Y′
-use Rattle.section.proofs.each.open as opens
-use Rattle.section.proofs.each.open.Symbol as open-def
-use Rattle.section.proofs.each.open.Symbol.{name as #section·each·open}
-use Rattle.section.proofs.each.open.Met as open-thm
+use Rattle.section.proofs.entry.open as opens
+use Rattle.section.proofs.entry.open.Symbol as open-def
+use Rattle.section.proofs.entry.open.Symbol.{name as #section·entry·open}
+use Rattle.section.proofs.entry.open.Met as open-thm
 use Rattle.section.proofs.together.settle as settle
 use Rattle.section.proofs.together.settle.Symbol as settle-def
 use Rattle.section.proofs.together.settle.Symbol.{name as #section·together·settle}
 use Rattle.section.proofs.together.settle.Met as settle-thm
-use Rattle.section.proofs.each.reply as reply
-use Rattle.section.proofs.each.reply.Symbol as reply-def
-use Rattle.section.proofs.each.reply.Symbol.{name as #section·each·reply}
-use Rattle.section.proofs.each.reply.Met as reply-thm
+use Rattle.section.proofs.entry.reply as reply
+use Rattle.section.proofs.entry.reply.Symbol as reply-def
+use Rattle.section.proofs.entry.reply.Symbol.{name as #section·entry·reply}
+use Rattle.section.proofs.entry.reply.Met as reply-thm
 use Rattle.section.proofs.entry.section.Key.{name as #section·entry·section}
 use Rattle.section.proofs.entry.section as section
 use Rattle.section.proofs.entry.section.Statement as stated
@@ -174,7 +174,7 @@ module _ {M : Type 1} (𝓤 : URA M) (H : Heap 𝓤) (A : Atoms 𝓤) (W : Given
   abbrev to-settle : Movement → Tally → Settle 𝓤 H A mem run .Ghost
   to-settle x t = (((κ, tt), (q, tt), tt, settling x t, (sv ∷ [], (movementVal x ∷ [], (tallyVal t ∷ [], tt)))), tt)
 
-  goes-settle : (x : Movement) (t : Tally) → Is Movements x (movementVal x ∷ []) → Is Tallies t (tallyVal t ∷ []) → Ready n x t
+  goes-settle : (x : Movement) (t : Tally) → Is Movements x (movementVal x ∷ []) → Is Tallies t (tallyVal t ∷ []) → GoesOn n x t
       → ent 𝓤 (⋆ 𝓤 H A Members-open) (Settle 𝓤 H A mem run .pre (to-settle x t))
   goes-settle x t gx gs ready =
       qed W Members-open ∵ says ! ready $ move ! (2 ∷ []) $ nothing ! $ move ! (1 ∷ 0 ∷ []) $ join ! $ frame ! $
@@ -202,8 +202,8 @@ module _ {M : Type 1} (𝓤 : URA M) (H : Heap 𝓤) (A : Atoms 𝓤) (W : Given
       nothing ! $ owned ! i64 (Is i64) (sint-makes 𝓤 H A W w64) temperature _ (refl, gt) $ fjoin ! $ owned ! i64 (Is i64) (sint-makes 𝓤 H A W w64) curvature _ (refl, gc) $ fjoin ! $
       owned ! i64 (Is i64) (sint-makes 𝓤 H A W w64) mean _ (refl, gm) $ fjoin ! $ move ! (2 ∷ 0 ∷ []) $ fjoin ! $ move ! (1 ∷ 0 ∷ []) $ fjoin ! $ frame ! $ done !
 
-  module _ (𝓣 : Tables 𝓤 H) (known-open : Triple 𝓤 (𝓣 .C #section·each·open) (Open 𝓤 H A mem run)) (known-settle : Triple 𝓤 (𝓣 .C #section·together·settle) (Settle 𝓤 H A mem run))
-      (known-reply : Triple 𝓤 (𝓣 .C #section·each·reply) (Reply 𝓤 H A mem run)) (l₀ l₁ l₂ l₃ l₄ l₅ l₆ l₇ l₈ l₉ l₁₀ l₁₁ l₁₂ : ℕ) where
+  module _ (𝓣 : Tables 𝓤 H) (known-open : Triple 𝓤 (𝓣 .C #section·entry·open) (Open 𝓤 H A mem run)) (known-settle : Triple 𝓤 (𝓣 .C #section·together·settle) (Settle 𝓤 H A mem run))
+      (known-reply : Triple 𝓤 (𝓣 .C #section·entry·reply) (Reply 𝓤 H A mem run)) (l₀ l₁ l₂ l₃ l₄ l₅ l₆ l₇ l₈ l₉ l₁₀ l₁₁ l₁₂ : ℕ) where
     abbrev En : Env 𝓤 H
     En = (Y′.mir, l₀) ∷ (bytes, l₁) ∷ (slice, l₂) ∷ (word, l₃) ∷ (word, l₄) ∷ (word, l₅) ∷ (O′.mir, l₆) ∷ (X′.mir, l₇) ∷ (T′.mir, l₈) ∷ (T′.mir, l₉) ∷ (word, l₁₀)
         ∷ (given, l₁₁) ∷ (sliceTy given, l₁₂) ∷ []
@@ -298,8 +298,8 @@ module _ {M : Type 1} (𝓤 : URA M) (H : Heap 𝓤) (A : Atoms 𝓤) (W : Given
         split ! $ move ! (3 ∷ 4 ∷ 5 ∷ 0 ∷ 2 ∷ 1 ∷ []) $ move ! (5 ∷ []) $ drop ! $
         takes-apart p (LL.owed O.the-type O′.the-laws p _ is .0) (LL.owed O.the-type O′.the-laws p _ is .1 .0) opened))))
 
-  module _ (𝓣 : Tables 𝓤 H) (known-open : Triple 𝓤 (𝓣 .C #section·each·open) (Open 𝓤 H A mem run)) (known-settle : Triple 𝓤 (𝓣 .C #section·together·settle) (Settle 𝓤 H A mem run))
-      (known-reply : Triple 𝓤 (𝓣 .C #section·each·reply) (Reply 𝓤 H A mem run)) where
+  module _ (𝓣 : Tables 𝓤 H) (known-open : Triple 𝓤 (𝓣 .C #section·entry·open) (Open 𝓤 H A mem run)) (known-settle : Triple 𝓤 (𝓣 .C #section·together·settle) (Settle 𝓤 H A mem run))
+      (known-reply : Triple 𝓤 (𝓣 .C #section·entry·reply) (Reply 𝓤 H A mem run)) where
     walk : ent 𝓤 (onEntry 𝓤 H A section.signature (κ′, (κ, tt)) (q′, (q, tt)) a at) (WpFn 𝓤 H (𝓣 .C) (𝓣 .Λ) code.function (bv ∷ sv ∷ int-val mean ∷ int-val curvature ∷ int-val temperature ∷ []) Post)
     walk =
         qed W ((‵ (flft κ′ q′) ⊛ ‵ (flft κ q) ⊛ ‵ ftrue) ∷ ‵ (owns (ShrSlice (named 0) κ′ u8 ∷ MutSlice (named 1) κ Members ∷ i64 ∷ i64 ∷ i64 ∷ []) a at) ∷ []) ∵
@@ -315,8 +315,8 @@ module _ {M : Type 1} (𝓤 : URA M) (H : Heap 𝓤) (A : Atoms 𝓤) (W : Given
         opens-it 𝓣 known-open known-settle known-reply l₀ l₁ l₂ l₃ l₄ l₅ l₆ l₇ l₈ l₉ l₁₀ l₁₁ l₁₂)))))))))))))
 
 module _ {M : Type 1} (𝓤 : URA M) (H : Heap 𝓤) (A : Atoms 𝓤) (W : Given 𝓤 H A) (mem : Memory → SProp 𝓤) (run : Routine → Fun 𝓤) (𝓣 : Tables 𝓤 H)
-    (known-open : Triple 𝓤 (𝓣 .C #section·each·open) (Open 𝓤 H A mem run)) (known-settle : Triple 𝓤 (𝓣 .C #section·together·settle) (Settle 𝓤 H A mem run))
-    (known-reply : Triple 𝓤 (𝓣 .C #section·each·reply) (Reply 𝓤 H A mem run)) where
+    (known-open : Triple 𝓤 (𝓣 .C #section·entry·open) (Open 𝓤 H A mem run)) (known-settle : Triple 𝓤 (𝓣 .C #section·together·settle) (Settle 𝓤 H A mem run))
+    (known-reply : Triple 𝓤 (𝓣 .C #section·entry·reply) (Reply 𝓤 H A mem run)) where
   section-walks : Walks 𝓤 H A section.ended stayed (WpFn 𝓤 H (𝓣 .C) (𝓣 .Λ) code.function) (section.clauses 𝓤 H A mem run)
   section-walks = walked 𝓤 H A section.ended stayed (section.clauses 𝓤 H A mem run) (WpFn 𝓤 H (𝓣 .C) (𝓣 .Λ) code.function)
       (λ κs. (slice-vals, (slice-vals, (sint-vals w64, (sint-vals w64, (sint-vals w64, tt))))))
@@ -345,6 +345,6 @@ section-spec 𝓤 H 𝓜 𝓖 𝓡 =
     entered 𝓤 H (tripleOf 𝓤 H (𝓖 .A) section.signature (section.spec 𝓤 H (𝓖 .A) (𝓜 .mem) (𝓡 .run)))
     (tables 𝓤 H 𝓜 𝓡 code.env .C) (tables 𝓤 H 𝓜 𝓡 code.env .Λ) #section·entry·section code.function (code.unfolded 𝓤 H 𝓜 𝓡)
     (section-meets 𝓤 H (𝓖 .A) (givenOf 𝓤 H 𝓜 𝓖) (𝓜 .mem) (𝓡 .run) (tablesOf 𝓤 H 𝓜 (tables 𝓤 H 𝓜 𝓡 code.env))
-    (cited 𝓤 H (Open 𝓤 H (𝓖 .A) (𝓜 .mem) (𝓡 .run)) 𝓜 𝓡 code.env #section·each·open open-def.routine code.calls-section·each·open (open-thm.met 𝓤 H 𝓜 𝓖 𝓡))
+    (cited 𝓤 H (Open 𝓤 H (𝓖 .A) (𝓜 .mem) (𝓡 .run)) 𝓜 𝓡 code.env #section·entry·open open-def.routine code.calls-section·entry·open (open-thm.met 𝓤 H 𝓜 𝓖 𝓡))
     (cited 𝓤 H (Settle 𝓤 H (𝓖 .A) (𝓜 .mem) (𝓡 .run)) 𝓜 𝓡 code.env #section·together·settle settle-def.routine code.calls-section·together·settle (settle-thm.met 𝓤 H 𝓜 𝓖 𝓡))
-    (cited 𝓤 H (Reply 𝓤 H (𝓖 .A) (𝓜 .mem) (𝓡 .run)) 𝓜 𝓡 code.env #section·each·reply reply-def.routine code.calls-section·each·reply (reply-thm.met 𝓤 H 𝓜 𝓖 𝓡)))
+    (cited 𝓤 H (Reply 𝓤 H (𝓖 .A) (𝓜 .mem) (𝓡 .run)) 𝓜 𝓡 code.env #section·entry·reply reply-def.routine code.calls-section·entry·reply (reply-thm.met 𝓤 H 𝓜 𝓖 𝓡)))

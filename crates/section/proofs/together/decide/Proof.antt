@@ -44,7 +44,7 @@ use denote.Triple.Walked.{says, needs, Stays, stay-none-slice, stay-none, walkOf
 use Rattle.section.specs.declared.Member.{Member}
 use Rattle.section.specs.declared.Movement.{Movement}
 use Rattle.section.specs.declared.Tally.{Tally}
-use Rattle.section.specs.Tallies.{Ready, tallyOf, tallyAll}
+use Rattle.section.specs.Tallies.{GoesOn, tallyOf, tallyAll}
 use Rattle.section.proofs.Rows.{scaled, counts, Nearer, nearer, nearer-wf}
 use Rattle.section.proofs.Tallying.{tallyTo, tallyTo-none, tallyTo-more, tallyTo-all, ready-to}
 use Rattle.section.proofs.Parts.{Members, Movements, Tallies, memberVal, movementVal, tallyVal, word, size, nobody}
@@ -76,7 +76,7 @@ Tallied 𝓤 H A mem run = tripleOf 𝓤 H A tally.signature (tally.spec 𝓤 H 
 module _ {M : Type 1} (𝓤 : URA M) (H : Heap 𝓤) (A : Atoms 𝓤) (W : Given 𝓤 H A) (mem : Memory → SProp 𝓤) (run : Routine → Fun 𝓤)
     (κ : Lft) (q : Share) (b o : ℕ) (γ : GName) (ms : List Member) (x : Movement) (start : Tally)
     (room : Room Members (length ms)) (gx : Is Movements x (movementVal x ∷ [])) (gs : Is Tallies start (tallyVal start ∷ []))
-    (ready : Ready (length ms) x start) where
+    (ready : GoesOn (length ms) x start) where
   abbrev n : ℕ
   n = length ms
 
@@ -115,7 +115,7 @@ module _ {M : Type 1} (𝓤 : URA M) (H : Heap 𝓤) (A : Atoms 𝓤) (W : Given
   abbrev to-tally : Tally → Member → Tallied 𝓤 H A mem run .Ghost
   to-tally t m = ((tt, tt, tt, (t, (m, (x, tt))), (tallyVal t ∷ [], (memberVal m ∷ [], (movementVal x ∷ [], tt)))), tt)
 
-  goes-tally : (t : Tally) (m : Member) → Ready 1 x t → Is Tallies t (tallyVal t ∷ []) → Is Members m (memberVal m ∷ [])
+  goes-tally : (t : Tally) (m : Member) → GoesOn 1 x t → Is Tallies t (tallyVal t ∷ []) → Is Members m (memberVal m ∷ [])
       → ent 𝓤 (emp 𝓤) (Tallied 𝓤 H A mem run .pre (to-tally t m))
   goes-tally t m r gt gm =
       qed W [] ∵ says ! r $ nothing ! $
@@ -253,7 +253,7 @@ module _ {M : Type 1} (𝓤 : URA M) (H : Heap 𝓤) (A : Atoms 𝓤) (W : Given
   decide-walks = walked 𝓤 H A decide.ended stayed (decide.clauses 𝓤 H A mem run) (WpFn 𝓤 H (𝓣 .C) (𝓣 .Λ) code.function)
       (λ κs. (slice-vals, (LL.vals X.the-type X′.the-laws, (LL.vals T.the-type T′.the-laws, tt))))
       (λ κs. (shr-slice-tells (named 0) (κs .0) Members, (LL.tells X.the-type X′.the-laws, (LL.tells T.the-type T′.the-laws, tt))))
-      (λ κs qs bounds a g are. needs 𝓤 (Ready (length (a .0 .now)) (a .1 .0) (a .1 .1 .0)) _ (λ ready.
+      (λ κs qs bounds a g are. needs 𝓤 (GoesOn (length (a .0 .now)) (a .1 .0) (a .1 .1 .0)) _ (λ ready.
       walk 𝓤 H A W mem run (κs .0) (qs .0) (a .0 .ptr .0) (a .0 .ptr .1) (a .0 .name) (a .0 .now) (a .1 .0) (a .1 .1 .0) (are .0 .0 .1) (are .1 .0) (are .1 .1 .0) ready 𝓣 known))
 
   decide-meets : Meets 𝓤 H A decide.signature (WpFn 𝓤 H (𝓣 .C) (𝓣 .Λ) code.function) (decide.spec 𝓤 H A mem run)

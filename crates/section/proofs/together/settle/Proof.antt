@@ -1,5 +1,5 @@
 -- `section::together::settle` meets its contract: a walk of its MIR, by hand. The slice is opened and lent to `decide` for a lifetime that is
--- made for the call; it comes back as it was, and where no number was given it goes to `keep` for good. Assumes nothing.
+-- made for the call; it comes back as it was, and where no number was given it goes to `store` for good. Assumes nothing.
 use mathlib.Core.Path.{_≡_, refl, sym, ap, subst, _∙_}
 use Prim.Native.Nat.{ℕ, _^_, _<_}
 use mathlib.Core.List.{List, [], _∷_}
@@ -48,7 +48,7 @@ use denote.Triple.Walked.{says, needs, Stays, gave-slice, stay-none, walkOf, Wal
 use Rattle.section.specs.declared.Member.{Member}
 use Rattle.section.specs.declared.Movement.{Movement}
 use Rattle.section.specs.declared.Tally.{Tally}
-use Rattle.section.specs.Tallies.{MovementRight, Ready, nextAll, tallyAll, settledAfter}
+use Rattle.section.specs.Tallies.{MovementRight, GoesOn, nextAll, tallyAll, settledAfter}
 use Rattle.section.proofs.SectionLaws.{settled-right}
 use Rattle.section.proofs.Tallying.{settled-moved, settled-kept}
 use Rattle.section.proofs.Parts.{Members, Movements, Tallies, movementVal, tallyVal, word}
@@ -60,10 +60,10 @@ use Rattle.section.proofs.together.decide as decide
 use Rattle.section.proofs.together.decide.Symbol as decide-def
 use Rattle.section.proofs.together.decide.Symbol.{name as #section·together·decide}
 use Rattle.section.proofs.together.decide.Met as decide-thm
-use Rattle.section.proofs.together.keep as kept
-use Rattle.section.proofs.together.keep.Symbol as kept-def
-use Rattle.section.proofs.together.keep.Symbol.{name as #section·together·keep}
-use Rattle.section.proofs.together.keep.Met as kept-thm
+use Rattle.section.proofs.together.store as kept
+use Rattle.section.proofs.together.store.Symbol as kept-def
+use Rattle.section.proofs.together.store.Symbol.{name as #section·together·store}
+use Rattle.section.proofs.together.store.Met as kept-thm
 use Rattle.section.proofs.together.settle.Key.{name as #section·together·settle}
 use Rattle.section.proofs.together.settle as settle
 use Rattle.section.proofs.together.settle.Statement as stated
@@ -72,7 +72,7 @@ use Rattle.section.proofs.together.settle.Code as code
 not-zero : (k : ℕ) → Holds (not (eqb k 0)) → k ≡ 0 → ⊥
 not-zero k h e = T-not (eqb k 0) h (subst (λ (m : ℕ). Holds (eqb k m)) e (eqb-refl k))
 
--- the types of the references, and of the slices made of them: as passed, as lent to `decide`, and as given to `keep`
+-- the types of the references, and of the slices made of them: as passed, as lent to `decide`, and as given to `store`
 abbrev shared : Ty
 shared = tyRef erased imm (pointee (Members .written))
 
@@ -89,13 +89,13 @@ stayed = (gave-slice (0 ∷ []) tt (plain (λ _. Members)), (stay-none (λ _. Mo
 abbrev Decide : {M : Type 1} (𝓤 : URA M) (H : Heap 𝓤) (A : Atoms 𝓤) (mem : Memory → SProp 𝓤) (run : Routine → Fun 𝓤) → Contract 𝓤
 Decide 𝓤 H A mem run = tripleOf 𝓤 H A decide.signature (decide.spec 𝓤 H A mem run)
 
-abbrev Keep : {M : Type 1} (𝓤 : URA M) (H : Heap 𝓤) (A : Atoms 𝓤) (mem : Memory → SProp 𝓤) (run : Routine → Fun 𝓤) → Contract 𝓤
-Keep 𝓤 H A mem run = tripleOf 𝓤 H A kept.signature (kept.spec 𝓤 H A mem run)
+abbrev Store : {M : Type 1} (𝓤 : URA M) (H : Heap 𝓤) (A : Atoms 𝓤) (mem : Memory → SProp 𝓤) (run : Routine → Fun 𝓤) → Contract 𝓤
+Store 𝓤 H A mem run = tripleOf 𝓤 H A kept.signature (kept.spec 𝓤 H A mem run)
 
 module _ {M : Type 1} (𝓤 : URA M) (H : Heap 𝓤) (A : Atoms 𝓤) (W : Given 𝓤 H A) (mem : Memory → SProp 𝓤) (run : Routine → Fun 𝓤)
     (κ : Lft) (q : Share) (b o : ℕ) (γ : GName) (ms : List Member) (x : Movement) (start : Tally)
     (room : Room Members (length ms)) (gx : Is Movements x (movementVal x ∷ [])) (gs : Is Tallies start (tallyVal start ∷ []))
-    (ready : Ready (length ms) x start) where
+    (ready : GoesOn (length ms) x start) where
   abbrev n : ℕ
   n = length ms
 
@@ -142,15 +142,15 @@ module _ {M : Type 1} (𝓤 : URA M) (H : Heap 𝓤) (A : Atoms 𝓤) (W : Given
       → ent 𝓤 (ensured 𝓤 H A decide.ended (decide.clauses 𝓤 H A mem run) (ν ∷ [], tt) (a δ) tt r) (fact 𝓤 (r ≡ total))
   decide-said ν δ r = exE 𝓤 _ (λ ws. snd∗ 𝓤 (sem 𝓤 H A (lasts decide.ended (ν ∷ [], tt) (a δ) ws)) (fact 𝓤 (r ≡ total)))
 
-  -- ---- the call of `keep`, at the slice's own lifetime and name
+  -- ---- the call of `store`, at the slice's own lifetime and name
   abbrev Open : List (Item 𝓤)
   Open = ‵ (fobs γ (codedHoleys Members .code (heres Members ms))) ∷ ‵ (fbor κ (Held Members n b o γ)) ∷ ‵ (flft κ q) ∷ []
 
-  abbrev to-keep : Keep 𝓤 H A mem run .Ghost
-  to-keep = (((κ, tt), (q, tt), tt, (named-slice γ, (x, tt)), (sv ∷ [], (movementVal x ∷ [], tt))), tt)
+  abbrev to-store : Store 𝓤 H A mem run .Ghost
+  to-store = (((κ, tt), (q, tt), tt, (named-slice γ, (x, tt)), (sv ∷ [], (movementVal x ∷ [], tt))), tt)
 
-  goes-keep : MovementRight x → ent 𝓤 (⋆ 𝓤 H A Open) (Keep 𝓤 H A mem run .pre to-keep)
-  goes-keep right =
+  goes-store : MovementRight x → ent 𝓤 (⋆ 𝓤 H A Open) (Store 𝓤 H A mem run .pre to-store)
+  goes-store right =
       qed W Open ∵ says ! right $ move ! (2 ∷ []) $ nothing ! $ move ! (1 ∷ 0 ∷ []) $ join ! $ frame ! $
       fjoin ! $ pureI ! (at-slice Members (named-slice γ) (sv ∷ [])) (tt, (tt, tt)) (refl, room) $ fjoin ! $
       nothing ! $ owned ! Movements (Is Movements) (LL.makes X.the-type X′.the-plain 𝓤 H A) x (movementVal x ∷ []) gx $ fjoin ! $ move ! (1 ∷ 0 ∷ []) $ fjoin ! $ done !
@@ -166,7 +166,7 @@ module _ {M : Type 1} (𝓤 : URA M) (H : Heap 𝓤) (A : Atoms 𝓤) (W : Given
       owned ! Movements (Is Movements) (LL.makes X.the-type X′.the-plain 𝓤 H A) x (movementVal x ∷ []) gx $ fjoin ! $ move ! (1 ∷ 0 ∷ []) $ fjoin ! $
       frame ! $ done !
 
-  module _ (𝓣 : Tables 𝓤 H) (known-decide : Triple 𝓤 (𝓣 .C #section·together·decide) (Decide 𝓤 H A mem run)) (known-keep : Triple 𝓤 (𝓣 .C #section·together·keep) (Keep 𝓤 H A mem run))
+  module _ (𝓣 : Tables 𝓤 H) (known-decide : Triple 𝓤 (𝓣 .C #section·together·decide) (Decide 𝓤 H A mem run)) (known-store : Triple 𝓤 (𝓣 .C #section·together·store) (Store 𝓤 H A mem run))
       (l₀ l₁ l₂ l₃ l₄ l₅ l₆ l₇ l₈ l₉ l₁₀ l₁₁ : ℕ) where
     abbrev En : Env 𝓤 H
     En = (T′.mir, l₀) ∷ (slice, l₁) ∷ (X′.mir, l₂) ∷ (T′.mir, l₃) ∷ (T′.mir, l₄) ∷ (word, l₅) ∷ (shared, l₆) ∷ (sliceTy shared, l₇) ∷ (tyBool, l₈) ∷ (tyUnit, l₉)
@@ -240,9 +240,9 @@ module _ {M : Type 1} (𝓤 : URA M) (H : Heap 𝓤) (A : Atoms 𝓤) (W : Given
         (λ h. forget ! 5 refl $ forget ! 8 refl $
         assigns ! (addr ! (from ! (fld ! refl (hop ! (look-in ! 12 (sub ! 0 refl (whole !))) (stop !))))) (from ! (stop !)) (init ! 10 refl (tt, tt)) $
         assigns ! (agg ! (and-then ! (load ! (from ! (stop !)) (look ! 10 refl)) (and-then ! (load ! (from ! (fld ! refl (stop !))) (look-in ! 12 (sub ! 1 refl (whole !)))) (no-more !)))) (from ! (stop !)) (init ! 11 refl (tt, (tt, (record { fits = room .0 }, tt)))) $
-        use3 W (raw (Keep 𝓤 H A mem run .pre to-keep)) (goes-keep (settled-right x start ms ready (eqb→eq (total .number) 0 (told _ (λ (j : ℕ). Holds (eqb j 0)) h)))) $
+        use3 W (raw (Store 𝓤 H A mem run .pre to-store)) (goes-store (settled-right x start ms ready (eqb→eq (total .number) 0 (told _ (λ (j : ℕ). Holds (eqb j 0)) h)))) $
         -- [the call; what the tally owns; _4; _5; _6; _7; _8; _9; _10; _11; _1; _2; _3; _0; …]
-        calls-at-last ! (fmOf 𝓤 H (W .laws) 𝓣) (Keep 𝓤 H A mem run) known-keep to-keep (and-then ! (load ! (from ! (stop !)) (look ! 9 refl)) (and-then ! (load ! (from ! (stop !)) (look ! 11 refl)) (no-more !))) (λ v.
+        calls-at-last ! (fmOf 𝓤 H (W .laws) 𝓣) (Store 𝓤 H A mem run) known-store to-store (and-then ! (load ! (from ! (stop !)) (look ! 9 refl)) (and-then ! (load ! (from ! (stop !)) (look ! 11 refl)) (no-more !))) (λ v.
         use1 W (later (some (λ (r : Unit {0}). ((‵ (flft κ q) ⊛ ‵ ftrue) ⊛ ‵ (unit .own r (v ∷ []))) ⊛ raw (ensured 𝓤 H A kept.ended (kept.clauses 𝓤 H A mem run) (κ, tt) (named-slice γ, (x, tt)) tt r)))) (id⊢ 𝓤 _) $ await ! tt $ pick ! (λ r.
         split ! $ move ! (1 ∷ []) $ use1 W (some (λ (zs : List Member × (Unit {0} × Unit {0})). ‵ (lasts kept.ended (κ, tt) (named-slice γ, (x, tt)) zs) ⊛ raw (fact 𝓤 (zs .0 ≡ nextAll x ms)))) (id⊢ 𝓤 _) $ pick ! (λ zs.
         split ! $ move ! (1 ∷ []) $ heard ! (zs .0 ≡ nextAll x ms) (λ ez. fsplit ! $ fsplit ! $ move ! (1 ∷ []) $ feqL ! (λ l.
@@ -289,7 +289,7 @@ module _ {M : Type 1} (𝓤 : URA M) (H : Heap 𝓤) (A : Atoms 𝓤) (W : Given
         -- [obs; the borrow; the token; true; what the tally owns; _4; …]
         move ! (3 ∷ []) $ drop ! $ decided))))))
 
-  module _ (𝓣 : Tables 𝓤 H) (known-decide : Triple 𝓤 (𝓣 .C #section·together·decide) (Decide 𝓤 H A mem run)) (known-keep : Triple 𝓤 (𝓣 .C #section·together·keep) (Keep 𝓤 H A mem run)) where
+  module _ (𝓣 : Tables 𝓤 H) (known-decide : Triple 𝓤 (𝓣 .C #section·together·decide) (Decide 𝓤 H A mem run)) (known-store : Triple 𝓤 (𝓣 .C #section·together·store) (Store 𝓤 H A mem run)) where
     walk : ent 𝓤 (onEntry 𝓤 H A settle.signature (κ, tt) (q, tt) (a γ) at) (WpFn 𝓤 H (𝓣 .C) (𝓣 .Λ) code.function (sv ∷ movementVal x ∷ tallyVal start ∷ []) Post)
     walk =
         qed W ((‵ (flft κ q) ⊛ ‵ ftrue) ∷ ‵ (owns (MutSlice (named 0) κ Members ∷ Movements ∷ Tallies ∷ []) (a γ) at) ∷ []) ∵ enter ! (𝓣 .C) (𝓣 .Λ) code.function (sv ∷ movementVal x ∷ tallyVal start ∷ []) _ $
@@ -300,16 +300,16 @@ module _ {M : Type 1} (𝓤 : URA M) (H : Heap 𝓤) (A : Atoms 𝓤) (W : Given
         move ! (24 ∷ []) $ split ! $ move ! (26 ∷ []) $ fsplit ! $ fsplit ! $ drop ! $ fsplit ! $
         -- [obs; the borrow; the others; the token; true; _11; …]
         keep ! (0 ∷ 1 ∷ 3 ∷ 19 ∷ 17 ∷ 15 ∷ 13 ∷ 11 ∷ 9 ∷ 7 ∷ 5 ∷ 25 ∷ 23 ∷ 21 ∷ 27 ∷ 28 ∷ 26 ∷ 24 ∷ 22 ∷ 20 ∷ 18 ∷ 16 ∷ 14 ∷ 12 ∷ 10 ∷ 8 ∷ 6 ∷ []) $
-        asked 𝓣 known-decide known-keep l₀ l₁ l₂ l₃ l₄ l₅ l₆ l₇ l₈ l₉ l₁₀ l₁₁))))))))))))
+        asked 𝓣 known-decide known-store l₀ l₁ l₂ l₃ l₄ l₅ l₆ l₇ l₈ l₉ l₁₀ l₁₁))))))))))))
 
 module _ {M : Type 1} (𝓤 : URA M) (H : Heap 𝓤) (A : Atoms 𝓤) (W : Given 𝓤 H A) (mem : Memory → SProp 𝓤) (run : Routine → Fun 𝓤) (𝓣 : Tables 𝓤 H)
-    (known-decide : Triple 𝓤 (𝓣 .C #section·together·decide) (Decide 𝓤 H A mem run)) (known-keep : Triple 𝓤 (𝓣 .C #section·together·keep) (Keep 𝓤 H A mem run)) where
+    (known-decide : Triple 𝓤 (𝓣 .C #section·together·decide) (Decide 𝓤 H A mem run)) (known-store : Triple 𝓤 (𝓣 .C #section·together·store) (Store 𝓤 H A mem run)) where
   settle-walks : Walks 𝓤 H A settle.ended stayed (WpFn 𝓤 H (𝓣 .C) (𝓣 .Λ) code.function) (settle.clauses 𝓤 H A mem run)
   settle-walks = walked 𝓤 H A settle.ended stayed (settle.clauses 𝓤 H A mem run) (WpFn 𝓤 H (𝓣 .C) (𝓣 .Λ) code.function)
       (λ κs. (slice-vals, (LL.vals X.the-type X′.the-laws, (LL.vals T.the-type T′.the-laws, tt))))
       (λ κs. (mut-slice-tells (named 0) (κs .0) Members, (LL.tells X.the-type X′.the-laws, (LL.tells T.the-type T′.the-laws, tt))))
-      (λ κs qs bounds a g are. needs 𝓤 (Ready (length (a .0 .now)) (a .1 .0) (a .1 .1 .0)) _ (λ ready.
-      walk 𝓤 H A W mem run (κs .0) (qs .0) (a .0 .ptr .0) (a .0 .ptr .1) (a .0 .name) (a .0 .now) (a .1 .0) (a .1 .1 .0) (are .0 .0 .1) (are .1 .0) (are .1 .1 .0) ready 𝓣 known-decide known-keep))
+      (λ κs qs bounds a g are. needs 𝓤 (GoesOn (length (a .0 .now)) (a .1 .0) (a .1 .1 .0)) _ (λ ready.
+      walk 𝓤 H A W mem run (κs .0) (qs .0) (a .0 .ptr .0) (a .0 .ptr .1) (a .0 .name) (a .0 .now) (a .1 .0) (a .1 .1 .0) (are .0 .0 .1) (are .1 .0) (are .1 .1 .0) ready 𝓣 known-decide known-store))
 
   settle-meets : Meets 𝓤 H A settle.signature (WpFn 𝓤 H (𝓣 .C) (𝓣 .Λ) code.function) (settle.spec 𝓤 H A mem run)
   settle-meets =
@@ -324,4 +324,4 @@ settle-spec 𝓤 H 𝓜 𝓖 𝓡 =
     (tables 𝓤 H 𝓜 𝓡 code.env .C) (tables 𝓤 H 𝓜 𝓡 code.env .Λ) #section·together·settle code.function (code.unfolded 𝓤 H 𝓜 𝓡)
     (settle-meets 𝓤 H (𝓖 .A) (givenOf 𝓤 H 𝓜 𝓖) (𝓜 .mem) (𝓡 .run) (tablesOf 𝓤 H 𝓜 (tables 𝓤 H 𝓜 𝓡 code.env))
     (cited 𝓤 H (Decide 𝓤 H (𝓖 .A) (𝓜 .mem) (𝓡 .run)) 𝓜 𝓡 code.env #section·together·decide decide-def.routine code.calls-section·together·decide (decide-thm.met 𝓤 H 𝓜 𝓖 𝓡))
-    (cited 𝓤 H (Keep 𝓤 H (𝓖 .A) (𝓜 .mem) (𝓡 .run)) 𝓜 𝓡 code.env #section·together·keep kept-def.routine code.calls-section·together·keep (kept-thm.met 𝓤 H 𝓜 𝓖 𝓡)))
+    (cited 𝓤 H (Store 𝓤 H (𝓖 .A) (𝓜 .mem) (𝓡 .run)) 𝓜 𝓡 code.env #section·together·store kept-def.routine code.calls-section·together·store (kept-thm.met 𝓤 H 𝓜 𝓖 𝓡)))

@@ -1,6 +1,6 @@
 use borrow.Author.Needs.{needs}
 use mathlib.Core.Path.{_≡_, ap, _∙_}
-use lib.IntN.{ℤ, natAbs}
+use lib.IntN.{natAbs}
 use mir.Facts.{toZ-ofZ}
 use mir.Syntax.{w64}
 use Rattle.units.specs.Kinds.{grain}

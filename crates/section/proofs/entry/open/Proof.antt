@@ -15,8 +15,8 @@ use Rattle.section.specs.declared.Change.{Change}
 use Rattle.section.specs.Sections.{changeOf, callRight}
 use Rattle.section.specs.Tallies.{openRefusals}
 use Rattle.section.proofs.Openings.{opened-refused, opened-passes}
-use Rattle.section.proofs.each.open.Statement.{statement}
-use Rattle.section.proofs.each.open.Tie as tie
+use Rattle.section.proofs.entry.open.Statement.{statement}
+use Rattle.section.proofs.entry.open.Tie as tie
 
 abbrev start : tie.After-sheet-number → tie.Start
 start c = c .before .before .before .before
@@ -52,7 +52,7 @@ returns c =
     let s = start number in
     let sheet = s .args .sheet .now in
     let author = number-refused (number .sheet-number .result) (read .read .result .sheet) (read-numbered (read .read .result) (read .read .ensures) (number .sheet-number .ensures)) (test .if1 .taken) in
-    opened-refused sheet (s .args .members) (change s) _ (stops-first (sheetRefusals sheet) _ (sheetOf sheet) (sheetOf sheet) _ author) (test .if1 .taken) (c .ended .ensures)
+    opened-refused sheet (s .args .members) (change s) _ (stops-first (sheetRefusals sheet) _ (sheetOf sheet) (sheetOf sheet) _ author) (test .if1 .taken) (c .bare .ensures)
 
 returns-2 : tie.Need-returns-2
 unfolding openRefusals firstOf
@@ -62,7 +62,7 @@ returns-2 c =
     let s = start (right .before .before) in
     let sheet = s .args .sheet .now in
     let wrong = sym (right-is right) ∙ not-true _ (test .if2 .taken) in
-    opened-refused sheet (s .args .members) (change s) _ (goes-on (sheetRefusals sheet) _ (sheetOf sheet) (sheetOf sheet) (passed (right .before)) ∙ rw wrong) (λ e. omega (arith, e)) (c .ended2 .ensures)
+    opened-refused sheet (s .args .members) (change s) _ (goes-on (sheetRefusals sheet) _ (sheetOf sheet) (sheetOf sheet) (passed (right .before)) ∙ rw wrong) (λ e. omega (arith, e)) (c .bare2 .ensures)
 
 returns-3 : tie.Need-returns-3
 unfolding openRefusals firstOf
@@ -73,7 +73,7 @@ returns-3 c =
     let sheet = s .args .sheet .now in
     let holds = sym (right-is right) ∙ not-false _ (test .if2 .left) in
     let (same, sound) = passed-sound sheet (passed (right .before)) in
-    opened-passes sheet (s .args .members) (change s) _ {h = sheetOf sheet} (goes-on (sheetRefusals sheet) _ (sheetOf sheet) (sheetOf sheet) (passed (right .before)) ∙ rw holds) (c .ended3 .ensures)
+    opened-passes sheet (s .args .members) (change s) _ {h = sheetOf sheet} (goes-on (sheetRefusals sheet) _ (sheetOf sheet) (sheetOf sheet) (passed (right .before)) ∙ rw holds) (c .bare3 .ensures)
     (λ i. record { sheet = same i; change = change-is s i }) (subst SheetSound same sound) holds
 
 pub open-spec : {M : Type 1} → statement M

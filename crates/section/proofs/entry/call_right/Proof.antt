@@ -7,8 +7,8 @@ use Rattle.bits.specs.Field.{within}
 use Rattle.units.proofs.Words.{stored}
 use Rattle.ranges.specs.Ranges.{around, mostRods, mostChange, mostCurvature}
 use Rattle.section.specs.Sections.{callRight}
-use Rattle.section.proofs.each.call_right.Statement.{statement}
-use Rattle.section.proofs.each.call_right.Tie as tie
+use Rattle.section.proofs.entry.call_right.Statement.{statement}
+use Rattle.section.proofs.entry.call_right.Tie as tie
 
 count-right : (c : tie.After-within) → c .within .result ≡ within 1 mostRods (c .before .before .before .args .members)
 count-right c = c .within .ensures

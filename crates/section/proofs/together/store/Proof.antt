@@ -1,4 +1,4 @@
--- `section::together::keep` meets its contract: a walk of its MIR, by hand. The slice is opened once, before the loop, and closed after it;
+-- `section::together::store` meets its contract: a walk of its MIR, by hand. The slice is opened once, before the loop, and closed after it;
 -- the loop's state is the list of which the first i members are moved, and `next` is called at each. Assumes nothing.
 use mathlib.Core.Path.{_≡_, refl, sym, subst}
 use Prim.Native.Nat.{ℕ, _+_, _*_, _^_, _<_}
@@ -55,10 +55,10 @@ use Rattle.section.proofs.each.next as next
 use Rattle.section.proofs.each.next.Symbol as next-def
 use Rattle.section.proofs.each.next.Symbol.{name as #section·each·next}
 use Rattle.section.proofs.each.next.Met as next-thm
-use Rattle.section.proofs.together.keep.Key.{name as #section·together·keep}
-use Rattle.section.proofs.together.keep as kept
-use Rattle.section.proofs.together.keep.Statement as stated
-use Rattle.section.proofs.together.keep.Code as code
+use Rattle.section.proofs.together.store.Key.{name as #section·together·store}
+use Rattle.section.proofs.together.store as kept
+use Rattle.section.proofs.together.store.Statement as stated
+use Rattle.section.proofs.together.store.Code as code
 
 abbrev slice : Ty
 slice = sliceTy (tyRef (named 0) mut (pointee (Members .written)))
@@ -231,21 +231,21 @@ module _ {M : Type 1} (𝓤 : URA M) (H : Heap 𝓤) (A : Atoms 𝓤) (W : Given
 
 module _ {M : Type 1} (𝓤 : URA M) (H : Heap 𝓤) (A : Atoms 𝓤) (W : Given 𝓤 H A) (mem : Memory → SProp 𝓤) (run : Routine → Fun 𝓤) (𝓣 : Tables 𝓤 H)
     (known : Triple 𝓤 (𝓣 .C #section·each·next) (Next 𝓤 H A mem run)) where
-  keep-walks : Walks 𝓤 H A kept.ended stayed (WpFn 𝓤 H (𝓣 .C) (𝓣 .Λ) code.function) (kept.clauses 𝓤 H A mem run)
-  keep-walks = walked 𝓤 H A kept.ended stayed (kept.clauses 𝓤 H A mem run) (WpFn 𝓤 H (𝓣 .C) (𝓣 .Λ) code.function)
+  store-walks : Walks 𝓤 H A kept.ended stayed (WpFn 𝓤 H (𝓣 .C) (𝓣 .Λ) code.function) (kept.clauses 𝓤 H A mem run)
+  store-walks = walked 𝓤 H A kept.ended stayed (kept.clauses 𝓤 H A mem run) (WpFn 𝓤 H (𝓣 .C) (𝓣 .Λ) code.function)
       (λ κs. (slice-vals, (LL.vals X.the-type X′.the-laws, tt))) (λ κs. (mut-slice-tells (named 0) (κs .0) Members, (LL.tells X.the-type X′.the-laws, tt)))
       (λ κs qs bounds a g are. needs 𝓤 (MovementRight (a .1 .0)) _ (λ right.
       walk 𝓤 H A W mem run (κs .0) (qs .0) (a .0 .ptr .0) (a .0 .ptr .1) (a .0 .name) (a .0 .now) (a .1 .0) (are .0 .0 .1) (are .1 .0) right 𝓣 known))
 
-  keep-meets : Meets 𝓤 H A kept.signature (WpFn 𝓤 H (𝓣 .C) (𝓣 .Λ) code.function) (kept.spec 𝓤 H A mem run)
-  keep-meets =
+  store-meets : Meets 𝓤 H A kept.signature (WpFn 𝓤 H (𝓣 .C) (𝓣 .Λ) code.function) (kept.spec 𝓤 H A mem run)
+  store-meets =
       walk-meets 𝓤 H A kept.ended stayed W (goes-gave-slice 𝓤 H A W 1 0 tt (plain (λ _. Members)), (goes-none 𝓤 H A W 1 (λ _. Movements) yes (λ κs y f. refl), tt))
-      (kept.clauses 𝓤 H A mem run) (WpFn 𝓤 H (𝓣 .C) (𝓣 .Λ) code.function) (WpFn-mono 𝓤 H (W .laws) 𝓣 code.function) keep-walks
+      (kept.clauses 𝓤 H A mem run) (WpFn 𝓤 H (𝓣 .C) (𝓣 .Λ) code.function) (WpFn-mono 𝓤 H (W .laws) 𝓣 code.function) store-walks
 
-pub keep-spec : {M : Type 1} → stated.statement M
+pub store-spec : {M : Type 1} → stated.statement M
 unfolding code.routine tablesOf
-keep-spec 𝓤 H 𝓜 𝓖 𝓡 =
+store-spec 𝓤 H 𝓜 𝓖 𝓡 =
     entered 𝓤 H (tripleOf 𝓤 H (𝓖 .A) kept.signature (kept.spec 𝓤 H (𝓖 .A) (𝓜 .mem) (𝓡 .run)))
-    (tables 𝓤 H 𝓜 𝓡 code.env .C) (tables 𝓤 H 𝓜 𝓡 code.env .Λ) #section·together·keep code.function (code.unfolded 𝓤 H 𝓜 𝓡)
-    (keep-meets 𝓤 H (𝓖 .A) (givenOf 𝓤 H 𝓜 𝓖) (𝓜 .mem) (𝓡 .run) (tablesOf 𝓤 H 𝓜 (tables 𝓤 H 𝓜 𝓡 code.env))
+    (tables 𝓤 H 𝓜 𝓡 code.env .C) (tables 𝓤 H 𝓜 𝓡 code.env .Λ) #section·together·store code.function (code.unfolded 𝓤 H 𝓜 𝓡)
+    (store-meets 𝓤 H (𝓖 .A) (givenOf 𝓤 H 𝓜 𝓖) (𝓜 .mem) (𝓡 .run) (tablesOf 𝓤 H 𝓜 (tables 𝓤 H 𝓜 𝓡 code.env))
     (cited 𝓤 H (Next 𝓤 H (𝓖 .A) (𝓜 .mem) (𝓡 .run)) 𝓜 𝓡 code.env #section·each·next next-def.routine code.calls-section·each·next (next-thm.met 𝓤 H 𝓜 𝓖 𝓡)))
