@@ -4,9 +4,10 @@
  * This is the part of docs/SPEC.md that C needs; numbers such as (SPEC 3.7)
  * name its paragraphs.
  *
- * Link with libtie_rod_c.a. The library has no heap, keeps nothing between
- * calls, calls no operating system and needs nothing but memcpy, memmove,
- * memset and memcmp. Calls may run at the same time on different buffers.
+ * Link with libtie_rod_c.a, and with libsection_c.a for tie_rod_section. The
+ * library has no heap, keeps nothing between calls, calls no operating system
+ * and needs nothing but memcpy, memmove, memset and memcmp. Calls may run at
+ * the same time on different buffers.
  *
  * Buffers (SPEC 9.1, 9.10)
  *   A buffer is a pointer and a length in bytes. No bytes and no length can
@@ -254,15 +255,16 @@ _Static_assert(TIE_ROD_MEMBER_FITS, "struct tie_rod_member lies otherwise than t
  *                                      change beyond 200,000,000
  *
  * `force` and `moment` are written on every answer, and are 0 on a refusal. On
- * 0 they are sums over the rods: of the stress behind the call, cut toward zero
- * to 10^-3 MPa, times the area, in 10^-3 N; and of the same products times the
- * offset, in 10^-3 N mm. Tension counts as positive. Both are exact: a force is
- * within 3.2 * 10^15, a moment within 3.2 * 10^18.
+ * 0 they are sums over the rods: of the stress behind the call, in whole 10^-3
+ * MPa and rounded toward zero, times the area, in 10^-3 N; and of the same
+ * products times the offset, in 10^-3 N mm. Tension counts as positive. Both
+ * are exact: a force is within 3.2 * 10^15, a moment within 3.2 * 10^18.
  *
  * On 0 each member's state is the next one, as tie_rod_pair would have left it,
- * and area and offset are what they were. On a refusal no byte of any member has
- * changed. So the members are the card, and nothing is left to copy:
- * tie_rod_has_next and tie_rod_rows are not for this answer.
+ * and area and offset are what they were. On a refusal area, offset and every
+ * byte of the state of every member are what they were. So the members are the
+ * card, and nothing is left to copy: tie_rod_has_next and tie_rod_rows are not
+ * for this answer.
  *
  * `members` is an array as C lays it out, and `count` says how many it has,
  * which must be true; NULL with count 0 is fine, and gets 14. Sheet, members,

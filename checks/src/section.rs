@@ -198,7 +198,7 @@ pub fn next(sheet: &Sheet, call: &Call, member: &Member) -> Result<State, Number
     rules::step(sheet, &state, &pair).map(|(state, _)| state)
 }
 
-/// A stress, cut toward zero to 10⁻³ MPa, in that unit.
+/// A stress in whole 10⁻³ MPa, rounded toward zero.
 pub fn cut(stress: i64) -> Fraction {
     let exact = Fraction::ratio(stress, STRESS_UNIT);
     &exact.sign() * &exact.abs().floor()
