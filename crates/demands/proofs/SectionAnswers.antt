@@ -28,7 +28,7 @@ use Rattle.section.specs.declared.Change.{Change}
 use Rattle.section.specs.Sections.{sectionRefusals, memberPair, memberTable, memberAnswer, forceOf, momentOf, mostForce, mostMoment, Move, Moves, all, stopped, movesFrom, sum, SectionLeft, turnedAway, moved, settled, sectionBy, sectionLeaves}
 use Rattle.section.proofs.MemberLaws.{member-passed}
 use Rattle.section.proofs.MovesLaws.{Pass, movesOf, pass-move, one-stops, all-pass, one-stopped}
-use Rattle.section.proofs.SectionBounds.{few-members, members-right, sums-most}
+use Rattle.section.proofs.SectionBounds.{section-right, few-members, sums-most}
 use Rattle.section.proofs.Numbers.{Numbered, lines-numbered, member-numbered}
 use Rattle.tie_rod.specs.Calls.{callLeaves}
 use Rattle.demands.specs.Sections.{Each, EachAfter, loneCall, forceNow, momentNow, MovedAlone, BySection, ByMember, SectionReason, SectionAnswered}
@@ -228,7 +228,7 @@ module _ (sheet : List ℕ) (c : Change) (ms : List Member) where
       by-way (inr (inr x)) =
           let passed = none-passes lines h (x .none) in
           let few = few-members sheet c ms passed in
-          let (forces, moments) = sums-most h c ms (x .advances) (sheet-passes (x .none) .1) (members-right sheet c ms passed) (x .pass) in
+          let (forces, moments) = sums-most h c ms (x .advances) (sheet-passes (x .none) .1) (section-right sheet c ms passed .1) (x .pass) in
           subst Small (sym (all-leaves (x .advances) (x .none) (x .pass))) (omega (arith, forces, few), omega (arith, moments, few))
 
   -- 4 can't be a member's number.

@@ -25,14 +25,17 @@ use Rattle.section.proofs.Openings.{change-right}
 use Rattle.section.proofs.Numbers.{lines-numbered}
 use Rattle.section.proofs.SectionLaws.{stopped-at}
 
--- A section that isn't turned away as a whole has at most 32 members.
-pub few-members : (sheet : List ℕ) (c : Change) (ms : List Member) {h : Sheet} → firstOf (sectionRefusals sheet c ms) (sheetOf sheet) ≡ passes h → length ms ≤ mostRods
+-- What a section that isn't turned away as a whole has passed: count and change, and every member's area and offset.
+pub section-right : (sheet : List ℕ) (c : Change) (ms : List Member) {h : Sheet} → firstOf (sectionRefusals sheet c ms) (sheetOf sheet) ≡ passes h
+    → (callRight (length ms) c ≡ true) × (allRight ms ≡ true)
 unfolding sectionRefusals
-few-members sheet c ms e =
+section-right sheet c ms e =
     let both = both-pass (sheetRefusals sheet) _ (sheetOf sheet) (sheetOf sheet) e in
     let line = passes-line 14 (not (callRight (length ms) c && allRight ms)) [] (sheetOf sheet) (both .1) in
-    let right = both-hold (callRight (length ms) c) (allRight ms) (not-false _ (line .0)) .0 in
-    change-right (length ms) c right .1
+    both-hold (callRight (length ms) c) (allRight ms) (not-false _ (line .0))
+
+pub few-members : (sheet : List ℕ) (c : Change) (ms : List Member) {h : Sheet} → firstOf (sectionRefusals sheet c ms) (sheetOf sheet) ≡ passes h → length ms ≤ mostRods
+few-members sheet c ms e = change-right (length ms) c (section-right sheet c ms e .0) .1
 
 pub section-bounds : (sheet : List ℕ) (c : Change) (ms : List Member) → let r = sectionLeaves sheet c ms .reply in (r .number < 256) × (r .place ≤ mostRods)
 unfolding sectionLeaves sectionRefusals
@@ -62,11 +65,3 @@ sums-most h c (m ∷ ms) (a ∷ advances) sound right (e, pass) =
       omega (arith, magnitude-sum (forceOf m stress) (sum (map (λ (v : Move). v .force) moves)), forces, force-magnitude m stress (both .0) most, force-most m stress (both .0) most),
       omega (arith, magnitude-sum (momentOf m stress) (sum (map (λ (v : Move). v .moment) moves)), moments, moment-magnitude m stress (both .0) most, moment-most m stress (both .0) most),
     )
-
--- All members of a section that isn't turned away as a whole are right.
-pub members-right : (sheet : List ℕ) (c : Change) (ms : List Member) {h : Sheet} → firstOf (sectionRefusals sheet c ms) (sheetOf sheet) ≡ passes h → allRight ms ≡ true
-unfolding sectionRefusals
-members-right sheet c ms e =
-    let both = both-pass (sheetRefusals sheet) _ (sheetOf sheet) (sheetOf sheet) e in
-    let line = passes-line 14 (not (callRight (length ms) c && allRight ms)) [] (sheetOf sheet) (both .1) in
-    both-hold (callRight (length ms) c) (allRight ms) (not-false _ (line .0)) .1

@@ -169,17 +169,16 @@ module _ (x : Movement) where
       let first : cond (memberRight m) (nextBy m (answer m)) m ≡ moveOf m a .to = rw (both .0, e) in
       λ i. first i ∷ nexts ms advances (both .1) pass i
 
--- A refused member has a number, and its place is one of the members'.
+-- A refused member has a number, and its place isn't past the members.
 pub record StoppedAt (place members n p : ℕ) : Type 0 where
   pub numbered : Numbered n
-  pub least : place ≤ p
   pub most : p < place + members
 
 pub stopped-at : (h : Sheet) (c : Change) (place : ℕ) (ms : List Member) {n p : ℕ} → movesFrom h c place ms ≡ stopped n p → StoppedAt place (length ms) n p
 stopped-at h c place ms e =
     let one = one-stopped h c place ms e in
     let long = ap (λ (l : List Member). length l) (one .in-order) ∙ length-append (one .before) (one .member ∷ one .behind) in
-    record { numbered = member-numbered h c (one .member) (one .refuses); least = omega (arith, one .at); most = omega (arith, one .at, long) }
+    record { numbered = member-numbered h c (one .member) (one .refuses); most = omega (arith, one .at, long) }
 
 -- ---- The whole
 
