@@ -35,10 +35,11 @@ EachAfter P [] (n ∷ after) = ⊥
 EachAfter P (m ∷ members) [] = ⊥
 EachAfter P (m ∷ members) (n ∷ after) = P m n × EachAfter P members after
 
--- SPEC 15.5: force and moment of members as they stand: the sums over their states' stresses.
+-- SPEC 15.5: the sum of the forces of members as they stand, by the stresses in their states,
 abbrev pub forceNow : List Member → ℤ
 forceNow members = sum (map (λ (m : Member). forceOf m (stateOf (m .state) .stress .0)) members)
 
+-- and of their moments.
 abbrev pub momentNow : List Member → ℤ
 momentNow members = sum (map (λ (m : Member). momentOf m (stateOf (m .state) .stress .0)) members)
 
@@ -99,7 +100,7 @@ pub record SectionAnswered (sheet : List ℕ) (c : Change) (members : List Membe
   -- SPEC 15.9: a refused member's number is the one that a lone rod of its state gets for its pair, if there is such a pair in bytes
   pub refused-alone : (number place : ℕ) (by : ByMember sheet c members number place) → pairInRange (memberPair c (by .member)) ≡ true
       → callLeaves sheet (by .member .state) (loneCall c (by .member)) .reply .number ≡ number
-  -- else each member moved as a lone rod does, and force and moment are those of the members as they stand then
+  -- where there is no number each member moved as a lone rod does, and force and moment are those of the members as they stand then
   pub all-move : sectionLeaves sheet c members .reply .number ≡ 0 → EachAfter (MovedAlone sheet c) members (sectionLeaves sheet c members .members)
   pub force : sectionLeaves sheet c members .reply .number ≡ 0
       → sectionLeaves sheet c members .reply .force ≡ forceNow (sectionLeaves sheet c members .members)

@@ -92,6 +92,7 @@ pub record Move : Type 0 where
   pub moment : ℤ
   pub to : Member
 
+-- SPEC 15.5: that of a member with the next state of its pair.
 abbrev pub moveOf : Member → Advance → Move
 moveOf m a = let stress = a .rod .stress .0 in record { force = forceOf m stress; moment = momentOf m stress; to = withState m (a .rod) }
 
@@ -108,6 +109,7 @@ movesOn m place (refused number) behind = stopped number place
 movesOn m place (passes a) (all moves) = all (moveOf m a ∷ moves)
 movesOn m place (passes a) (stopped number later) = stopped number later
 
+-- SPEC 15.4: what some members come to, the first of them at this place.
 unfoldable pub movesFrom : Sheet → Change → (place : ℕ) → List Member → Moves
 movesFrom h c place [] = all []
 movesFrom h c place (m ∷ members) = movesOn m place (memberAnswer h c m) (movesFrom h c (place + 1) members)
@@ -138,10 +140,12 @@ moved moves =
     (record { number = 0; place = 0; force = sum (map (λ (x : Move). x .force) moves); moment = sum (map (λ (x : Move). x .moment) moves) })
     (map (λ (x : Move). x .to) moves)
 
+-- SPEC 15.6: by what the members came to,
 abbrev pub settled : Moves → List Member → SectionLeft
 settled (all moves) members = moved moves
 settled (stopped number place) members = turnedAway number place members
 
+-- and by what the section's own lines answer; no member is looked at beside their number.
 abbrev pub sectionBy : Answer Sheet → Change → List Member → SectionLeft
 sectionBy (refused number) c members = turnedAway number 0 members
 sectionBy (passes h) c members = settled (movesFrom h c 1 members) members

@@ -36,11 +36,12 @@ rodOf (refused number) = refused number
 abbrev pub bareTally : (number place : ℕ) → Tally
 bareTally number place = record { number = number; place = place; force = pos 0; moment = pos 0; seen = 0 }
 
--- SPEC 15.7: one rod more: its parts are added, or its refusal ends the tally with its place.
+-- SPEC 15.7: one rod more, which has this stress: its parts are added.
 abbrev pub addedTo : Tally → Member → (stress : ℤ) → Tally
 addedTo t m stress =
     record { number = 0; place = 0; force = t .force +ℤ forceOf m stress; moment = t .moment +ℤ momentOf m stress; seen = t .seen + 1 }
 
+-- SPEC 15.7: one rod more, by its answer: a refusal ends the sums, with the rod's place.
 abbrev pub counted : Tally → Member → Answer Advance → Tally
 counted t m (passes a) = addedTo t m (a .rod .stress .0)
 counted t m (refused number) = bareTally number (t .seen + 1)
@@ -56,18 +57,21 @@ tallyOf x t m =
     (cond (not (memberRight m)) (bareTally 14 0)
     (cond (eqb (t .number) 0) (counted t m (memberAnswer (x .sheet) (x .change) m)) t))
 
+-- SPEC 15.7: the same over all members, one after another.
 unfoldable pub tallyAll : Movement → Tally → List Member → Tally
 tallyAll x t [] = t
 tallyAll x t (m ∷ members) = tallyAll x (tallyOf x t m) members
 
--- SPEC 15.7: a member after the call: moved where it passes, and else as it was.
+-- SPEC 15.7: a member by its answer: moved where it passes, and else as it was.
 abbrev pub nextBy : Member → Answer Advance → Member
 nextBy m (passes a) = withState m (a .rod)
 nextBy m (refused number) = m
 
+-- SPEC 15.7: a member after the call,
 unfoldable pub nextOf : Movement → Member → Member
 nextOf x m = cond (memberRight m) (nextBy m (memberAnswer (x .sheet) (x .change) m)) m
 
+-- and all of them.
 abbrev pub nextAll : Movement → List Member → List Member
 nextAll x members = map (nextOf x) members
 
@@ -75,16 +79,18 @@ nextAll x members = map (nextOf x) members
 unfoldable pub settledAfter : Movement → Tally → List Member → List Member
 settledAfter x t members = cond (eqb (tallyAll x t members .number) 0) (nextAll x members) members
 
+-- SPEC 15.6: what a tally answers.
 abbrev pub replyOf : Tally → SectionReply
 replyOf t = record { number = t .number; place = t .place; force = t .force; moment = t .moment }
 
 -- ---- What the steps ask
 
--- SPEC 15.7: changes in their ranges, and a sheet that passes.
+-- SPEC 15.3: changes in their ranges.
 pub record ChangeRight (c : Change) : Type 0 where
   pub mean : around mostChange (c .mean .0) ≡ true
   pub curvature : around mostCurvature (c .curvature .0) ≡ true
 
+-- SPEC 15.7: a sheet that passes, and such changes.
 pub record MovementRight (x : Movement) : Type 0 where
   pub sound : SheetSound (x .sheet)
   pub change : ChangeRight (x .change)
@@ -103,6 +109,7 @@ GoesOn rods x t = sectionsOwn t ≡ false → MovementRight x × Room rods t
 unfoldable pub openRefusals : (sheet : List ℕ) → (members : ℕ) → Change → List Refusal
 openRefusals sheet members c = sheetRefusals sheet ++ (refusal 14 (not (callRight members c)) ∷ [])
 
+-- SPEC 15.7: the tally before the first member.
 abbrev pub startBy : {A : Type 0} → Answer A → Tally
 startBy (passes _) = bareTally 0 0
 startBy (refused number) = bareTally number 0

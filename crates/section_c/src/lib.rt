@@ -1,4 +1,5 @@
-// A section as C calls it (SPEC 9.10, 15.6): thin above the entry of its name. It has an archive of its own.
+// A section as C calls it (SPEC 9.10, 15.6): thin above the entry of its name. It has an archive of its own, since in one archive with the
+// runs it would make them slower (DECISIONS.md, Speed).
 use section::Member;
 use section::SectionReply;
 ghost use mathlib.Core.Path.{_≡_};
@@ -8,7 +9,7 @@ ghost use Rattle.ranges.specs.Ranges.{mostRods};
 ghost use Rattle.section.specs.Sections.{changeOf, sectionLeaves};
 ghost use Rattle.section_c.specs.Answers.{sectionSeen, sectionSeenOf};
 
-// The answer of a section as one number.
+// Number and place as one number.
 fn pack(reply: SectionReply) -> u64
     requires { ⌜ (reply .number < 256) × (reply .place ≤ mostRods) ⌝ }
     ensures { λ r. ⌜ r ≡ inOneNumber (reply .number) (reply .place) ⌝ }
