@@ -45,6 +45,10 @@ enum Slip {
     FlowAtEquality,
     NegativeStressDown,
     OtherDivisorBehindTheFirstSegment,
+    RiseOfTheSegmentBeforeLeftOut,
+    RiseCarriedTwice,
+    RiseByTheModulus,
+    RiseAddedBeforeTheSegmentIsLeft,
     SideByTheStrainChange,
     AbscissaDown,
     StressUp,
@@ -67,10 +71,14 @@ enum Slip {
     ChangeByTheNewCoefficient,
 }
 
-const SLIPS: [Slip; 23] = [
+const SLIPS: [Slip; 27] = [
     Slip::FlowAtEquality,
     Slip::NegativeStressDown,
     Slip::OtherDivisorBehindTheFirstSegment,
+    Slip::RiseOfTheSegmentBeforeLeftOut,
+    Slip::RiseCarriedTwice,
+    Slip::RiseByTheModulus,
+    Slip::RiseAddedBeforeTheSegmentIsLeft,
     Slip::SideByTheStrainChange,
     Slip::AbscissaDown,
     Slip::StressUp,
@@ -249,14 +257,21 @@ fn flowed(slip: Slip, sheet: &Sheet, old: &Numbers, trial: &Fraction, change: i6
     }
 }
 
+/// T, with a slip.
 fn limit(slip: Slip, sheet: &Sheet, side: &Side, abscissa: &Fraction) -> Fraction {
-    let segment = side.segment(abscissa);
-    if slip != Slip::OtherDivisorBehindTheFirstSegment || segment.start == side.yield_stress {
-        return side.limit(abscissa);
-    }
+    let i = side.segments.iter().rposition(|segment| segment.start <= *abscissa).expect("below the yield");
+    let (before, here) = (&side.segments[i.saturating_sub(1)], &side.segments[i]);
+    let height = match slip {
+        Slip::RiseOfTheSegmentBeforeLeftOut => before.height.clone(),
+        Slip::RiseCarriedTwice => &here.height + &(&here.height - &before.height),
+        Slip::RiseByTheModulus => here.start.clone(),
+        Slip::RiseAddedBeforeTheSegmentIsLeft => side.segments.get(i + 1).unwrap_or(here).height.clone(),
+        _ => here.height.clone(),
+    };
     // the divisor of the hardening modulus
-    let slope = Fraction::ratio(segment.tangent, sheet.modulus - segment.tangent);
-    &segment.height + &(&(abscissa - &segment.start) * &slope)
+    let other = slip == Slip::OtherDivisorBehindTheFirstSegment && i > 0;
+    let divisor = if other { sheet.modulus - here.tangent } else { sheet.modulus };
+    &height + &(&(abscissa - &here.start) * &Fraction::ratio(here.tangent, divisor))
 }
 
 /// A run or a single pair with a slip in each step; the other calls as the rules have them.

@@ -1,8 +1,10 @@
 pub mod Rise
 pub mod Tangents
 pub mod SegmentsFrom
+pub mod Spans
 pub mod Walk
 pub mod Height
 pub mod Limit
+pub mod Carried
 pub mod Secants
 pub mod Rules

@@ -6,7 +6,7 @@ use native.Mathlib.Omega.{arith}
 use lib.IntN.{pos}
 use Rattle.fractions.specs.Fraction.{Frac, whole, _≤F_, _-F_, _*F_}
 use Rattle.fractions.proofs.Common.{Is, is-shift, is-whole, is-sub, is-mul, is-le, at-common}
-use Rattle.curve.specs.Curve.{Curve, Falling, height, limitF}
+use Rattle.curve.specs.Curve.{Curve, Falling, limitF}
 use Rattle.curve.proofs.Height.{height-concave}
 use Rattle.curve.proofs.Limit.{is-limit}
 

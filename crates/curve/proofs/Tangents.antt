@@ -1,5 +1,5 @@
 -- Which segment holds an abscissa: from the yield on one and no other does, and its tangent is the slope of T there. Assumes nothing.
-use Prim.Native.Nat.{ℕ, _+_, _-_, _*_, _≤_, _<_}
+use Prim.Native.Nat.{ℕ, _+_, _-_, _*_, _≤_, _<_, min}
 use mathlib.Core.Path.{_≡_, refl, sym, _∙_, ap, subst}
 use mathlib.Core.Bool.{Bool, true, false, cond}
 use mathlib.Core.List.{_∷_, List·Memᴰ, List·Memᴰ·head, List·Memᴰ·tail, List·Memᴰ·cases-cons, List·Memᴰ·not-nil}
@@ -9,7 +9,7 @@ use native.Mathlib.Omega.{arith}
 use lib.Dec.{T, leb, leb→le}
 use mir.Facts.{and-yes}
 use borrow.Author.Tests.{lt-ltb, le-ltb, le-leb, lt-leb}
-use Rattle.curve.specs.Curve.{Segments, last, segment, rise}
+use Rattle.curve.specs.Curve.{Segments, last, segment, rise, height}
 use Rattle.curve.specs.Tangent.{End, at, nowhere, Span, before, holds, spans, tangentIn}
 use Rattle.curve.proofs.Rise.{rise-last, rise-within, rise-beyond}
 
@@ -20,19 +20,10 @@ module _ (start end t a : ℕ) where
   not-held-beyond : start ≤ end → end ≤ a → holds (record { start = start; end = at end; tangent = t }) a ≡ false
   not-held-beyond h k = rw (le-leb start a (omega arith)) (le-ltb a end k)
 
-module _ (E start a : ℕ) where
-  pub tangent-last : (t : ℕ) → start ≤ a → tangentIn E (spans E start (last t)) a ≡ t
-  unfolding spans tangentIn
-  tangent-last t h = rw (le-leb start a h)
-
-  module _ (length t : ℕ) (rest : Segments) where
-    pub tangent-within : start ≤ a → a < start + E * length → tangentIn E (spans E start (segment length t rest)) a ≡ t
-    unfolding spans tangentIn
-    tangent-within h k = rw (held-within start (start + E * length) t a h k)
-
-    pub tangent-beyond : start + E * length ≤ a → tangentIn E (spans E start (segment length t rest)) a ≡ tangentIn E (spans E (start + E * length) rest) a
-    unfolding spans tangentIn
-    tangent-beyond h = rw (not-held-beyond start (start + E * length) t a (omega arith) h)
+tangent-beyond : (E start a length t : ℕ) (rest : Segments) → start + E * length ≤ a
+    → tangentIn E (spans E start (segment length t rest)) a ≡ tangentIn E (spans E (start + E * length) rest) a
+unfolding spans tangentIn
+tangent-beyond E start a length t rest h = rw (not-held-beyond start (start + E * length) t a (omega arith) h)
 
 -- Below its start none does.
 pub tangent-below : (E a : ℕ) (segments : Segments) (start : ℕ) → a < start → tangentIn E (spans E start segments) a ≡ E
@@ -128,3 +119,13 @@ tangent-is-slope E start (segment length t rest) p m a b from h to =
         let at-b : b - start ≡ E * length + (b - (start + E * length)) = omega arith in
         rw (at-a, at-b, rise-beyond E length t rest (a - (start + E * length)), rise-beyond E length t rest (b - (start + E * length)), same)
         (omega arith)
+
+-- The same of E times T.
+pub height-slope : (E y : ℕ) (segments : Segments) (p : Span) → List·Memᴰ p (spans E y segments) → (a b : ℕ) → p .start ≤ a → a ≤ b → UpTo (p .end) b
+    → height E E y segments b ≡ height E E y segments a + p .tangent * (b - a)
+unfolding height
+height-slope E y segments p m a b from h to =
+    let past = starts-from E y segments p m in
+    let at-a : min a y ≡ y = omega arith in
+    let at-b : min b y ≡ y = omega arith in
+    rw (at-a, at-b, tangent-is-slope E y segments p m a b from h to) (omega arith)

@@ -1,55 +1,55 @@
 -- The walk over the segments of a side: what is true at each segment that it reaches, and what it reads where it stops. Assumes nothing.
 use Prim.Native.Nat.{ℕ, _+_, _-_, _*_, _/_, _^_, _≤_, _<_, min}
-use mathlib.Core.Path.{_≡_, _∙_}
+use mathlib.Core.Path.{_≡_, refl, _∙_}
+use mathlib.Core.Logic.{_⊎_, inl, inr}
 use native.Mathlib.Nat.{add-zero, mul-add-div, mul-div-right, mul-le-mul, mul-le-mul-right, div-le-of-le-mul}
 use native.Mathlib.Omega.{arith}
+use lib.Dec.{T}
 use lib.ListN.{length, take, getD}
+use borrow.Author.Tests.{lt-ltb, le-leb}
 use Rattle.units.specs.Kinds.{magnitude}
 use Rattle.units.specs.declared.Magnitude.{Magnitude}
 use Rattle.units.specs.declared.Modulus.{Modulus}
 use Rattle.curve.specs.declared.Side.{Side}
 use Rattle.curve.specs.declared.Reading.{Reading}
 use Rattle.curve.specs.Curve.{rise, height, limitAt}
-use Rattle.curve.specs.Tangent.{spans, tangentIn, tangentAt}
+use Rattle.curve.specs.Tangent.{holds, tangentAt}
 use Rattle.curve.specs.Sides.{segmentsOf, curveOf, readingOf, flat, Readable, lengthAt, tangentOf}
-use Rattle.curve.proofs.Rise.{rise-last, rise-zero, rise-within, rise-beyond}
-use Rattle.curve.proofs.Tangents.{tangent-below, tangent-last, tangent-within, tangent-beyond}
-use Rattle.curve.proofs.SegmentsFrom.{from, from-segment, from-last}
+use Rattle.curve.specs.Carried.{spanAt, Carries}
+use Rattle.curve.proofs.Rise.{rise-zero}
+use Rattle.curve.proofs.Tangents.{tangent-below, tangent-of-holder, UpTo}
+use Rattle.curve.proofs.Spans.{span-first, span-next, span-end, span-endless, span-tangent, span-member}
+use Rattle.curve.proofs.Carried.{carries-sum, sum-over-segment, carried-first, carried-next}
 
 abbrev pub yieldOf : Side → ℕ
 yieldOf side = side .«yield_stress» .0
 
--- Segment i of `side` is reached, `past` of an abscissa that lies `all` past the yield is left, and `carried` is the rise so far.
-pub record Reached (e : Modulus) (side : Side) (all carried past i : ℕ) : Type 0 where
+-- Segment i of `side` is reached on the way to the abscissa a: `carried` is the rise up to its start, and `past` lies beyond it.
+pub record Reached (e : Modulus) (side : Side) (a carried past i : ℕ) : Type 0 where
   pub readable : Readable side e
   pub array : length (side .segments) ≡ 7
-  pub word : yieldOf side + all < 2 ^ 64
+  pub word : a < 2 ^ 64
   pub index : i < side .count
-  pub room : carried + past ≤ all
-  -- from the segment's start on, the curve has risen by what is carried, and goes on with this segment and those after it
-  pub rises : (x : ℕ) → rise (e .0) (from side 0) (all - past + x) ≡ e .0 * carried + rise (e .0) (from side i) x
-  pub tangents : tangentIn (e .0) (spans (e .0) (yieldOf side) (from side 0)) (yieldOf side + all) ≡ tangentIn (e .0) (spans (e .0) (yieldOf side + (all - past)) (from side i)) (yieldOf side + all)
+  -- SPEC 4.11: what is carried is T at the segment's start less the yield
+  pub carries : (some : 0 < e .0) → Carries (e .0) some (curveOf side) i carried
+  pub lies : spanAt (e .0) (curveOf side) i .start + past ≡ a
+  pub room : yieldOf side + carried + past ≤ a
 
--- What `reading` answers at segment i is what the side says at the abscissa.
-abbrev pub ReadsRight : (e : Modulus) (side : Side) (all carried past i : ℕ) → Type 0
-ReadsRight e side all carried past i =
-    (reading : Reading) → reading ≡ record { limit = magnitude (yieldOf side + carried + past * tangentOf side i / e .0); tangent = getD (side .segments) i flat .tangent }
-    → (a : Magnitude) → a .0 ≡ yieldOf side + all → (reading ≡ readingOf side e a) × (reading .limit .0 ≤ a .0)
-
-pub begun : (e : Modulus) (side : Side) (all : ℕ) → Readable side e → length (side .segments) ≡ 7 → yieldOf side + all < 2 ^ 64 → Reached e side all 0 all 0
-begun e side all readable array word =
-    let start : yieldOf side + (all - all) ≡ yieldOf side = omega arith in
+pub begun : (e : Modulus) (side : Side) (a : ℕ) → Readable side e → length (side .segments) ≡ 7 → a < 2 ^ 64 → yieldOf side ≤ a → Reached e side a 0 (a - yieldOf side) 0
+unfolding curveOf
+begun e side a readable array word from-yield =
+    let fits : side .count ≤ length (side .segments) = omega (arith, readable .count-fits) in
     record {
       readable = readable;
       array = array;
       word = word;
       index = readable .count-positive;
+      carries = λ some. carried-first (e .0) some side fits;
+      lies = omega (arith, span-first (e .0) side fits);
       room = omega arith;
-      rises = λ x. let same : all - all + x ≡ x = omega arith in rw same (omega arith);
-      tangents = rw start;
     }
 
-module _ {e : Modulus} {side : Side} {all carried past i : ℕ} (r : Reached e side all carried past i) where
+module _ {e : Modulus} {side : Side} {a carried past i : ℕ} (r : Reached e side a carried past i) where
   fits : side .count ≤ length (side .segments)
   fits = omega (arith, r .array, r .readable .count-fits)
 
@@ -63,73 +63,65 @@ module _ {e : Modulus} {side : Side} {all carried past i : ℕ} (r : Reached e s
 
   -- the segment ends before the abscissa, or where it is: the next one is reached
   pub onward : i + 1 < side .count → e .0 * lengthAt side i ≤ past
-      → Reached e side all (carried + tangentOf side i * lengthAt side i) (past - e .0 * lengthAt side i) (i + 1)
+      → Reached e side a (carried + tangentOf side i * lengthAt side i) (past - e .0 * lengthAt side i) (i + 1)
   onward h ends =
-      let span = e .0 * lengthAt side i in
-      let start = yieldOf side + (all - past) in
-      let next : yieldOf side + (all - (past - span)) ≡ start + span = omega (arith, r .room) in
       record {
         readable = r .readable;
         array = r .array;
         word = r .word;
         index = h;
+        carries = λ some. carried-next (e .0) some side fits i carried h (r .carries some);
+        lies = omega (arith, r .lies, span-next (e .0) side fits i h);
         room = omega (arith, r .room, rise-at-most-span);
-        rises = λ x.
-            let same : all - (past - span) + x ≡ all - past + (span + x) = omega (arith, r .room) in
-            rw (same, r .rises (span + x), from-segment side fits i h, rise-beyond (e .0) (lengthAt side i) (tangentOf side i) (from side (i + 1)) x)
-            (omega arith);
-        tangents =
-            rw next
-            (r .tangents ∙ rw (from-segment side fits i h) (tangent-beyond (e .0) start (yieldOf side + all) (lengthAt side i) (tangentOf side i) (from side (i + 1)) (omega (arith, r .room))));
       }
 
-  -- What is carried is T at the segment's start less the yield.
-  pub carried-is-rise : limitAt (e .0) (curveOf side) (yieldOf side + (all - past)) ≡ yieldOf side + carried
-  unfolding limitAt height curveOf from
-  carried-is-rise =
-      let y = yieldOf side in
-      let at-yield : min (y + (all - past)) y ≡ y = omega arith in
-      let start : y + (all - past) - y ≡ all - past + 0 = omega arith in
-      let whole : e .0 * y + rise (e .0) (from side 0) (all - past + 0) ≡ e .0 * (y + carried) = rw (r .rises 0, rise-zero (e .0) (from side i)) (omega arith) in
-      rw (at-yield, start, whole) (mul-div-right (y + carried) (r .readable .modulus-positive))
+  -- Where the walk stops: in the last segment, or in one that ends beyond the abscissa.
+  abbrev pub Stops : Type 0
+  Stops = (i + 1 ≡ side .count) ⊎ ((i + 1 < side .count) × (past < e .0 * lengthAt side i))
 
-  -- Segment i is the one to read where it rises by its tangent up to the abscissa and holds it.
-  stop : rise (e .0) (from side i) past ≡ tangentOf side i * past
-      → tangentIn (e .0) (spans (e .0) (yieldOf side + (all - past)) (from side i)) (yieldOf side + all) ≡ tangentOf side i
-      → ReadsRight e side all carried past i
-  unfolding readingOf curveOf limitAt tangentAt height from
-  stop risen tangent reading is a lies =
-      let y = yieldOf side in
-      let t = tangentOf side i in
-      let at-yield : min (y + all) y ≡ y = omega arith in
-      let beyond : y + all - y ≡ all - past + past = omega (arith, r .room) in
-      let whole : e .0 * y + rise (e .0) (from side 0) (all - past + past) ≡ e .0 * (y + carried) + past * t = rw (r .rises past, risen) (omega arith) in
-      let share : past * t / e .0 ≤ past = div-le-of-le-mul (e .0) (omega (arith, mul-le-mul-right past (r .readable .tangents-fit i (r .index)))) in (
-        rw (is, lies, at-yield, beyond, whole, mul-add-div (r .readable .modulus-positive) (y + carried) (past * t), r .tangents, tangent),
-        rw (is, lies) (omega (arith, r .room)),
+  holds-abscissa : Stops → T (holds (spanAt (e .0) (curveOf side) i) a)
+  holds-abscissa (inl ends) = rw (le-leb (spanAt (e .0) (curveOf side) i .start) a (omega (arith, r .lies)), span-endless (e .0) side fits i ends) tt
+  holds-abscissa (inr (goes-on, before)) =
+      rw (le-leb (spanAt (e .0) (curveOf side) i .start) a (omega (arith, r .lies)), span-end (e .0) side fits i goes-on)
+      (rw (lt-ltb a (spanAt (e .0) (curveOf side) (i + 1) .start) (omega (arith, r .lies, span-next (e .0) side fits i goes-on))) tt)
+
+  up-to-abscissa : Stops → UpTo (spanAt (e .0) (curveOf side) i .end) a
+  up-to-abscissa (inl ends) = rw (span-endless (e .0) side fits i ends) tt
+  up-to-abscissa (inr (goes-on, before)) =
+      rw (span-end (e .0) side fits i goes-on) (omega (arith, r .lies, span-next (e .0) side fits i goes-on))
+
+  -- There the sum of SPEC 4.4 is what is carried and what the segment adds,
+  sum-at : Stops → height (e .0) (e .0) (curveOf side .yield) (curveOf side .segments) a ≡ e .0 * (yieldOf side + carried) + past * tangentOf side i
+  unfolding curveOf
+  sum-at stops =
+      let gap : a - spanAt (e .0) (curveOf side) i .start ≡ past = omega (arith, r .lies) in
+      let some = r .readable .modulus-positive in
+      let over = sum-over-segment (e .0) some side fits i a (r .index) (omega (arith, r .lies)) (up-to-abscissa stops) in
+      rw (over, carries-sum (e .0) some (curveOf side) i carried .0 (r .carries some), gap) (omega arith)
+
+  -- and the tangent is the segment's.
+  tangent-at : Stops → tangentAt (e .0) (curveOf side) a ≡ tangentOf side i
+  unfolding tangentAt
+  tangent-at stops =
+      tangent-of-holder (e .0) a (curveOf side .yield) (curveOf side .segments) (spanAt (e .0) (curveOf side) i) (span-member (e .0) side fits i (r .index)) (holds-abscissa stops)
+      ∙ span-tangent (e .0) side fits i (r .index)
+
+  -- What is read there is what the side says at the abscissa.
+  pub stop : Stops → (reading : Reading) → reading ≡ record { limit = magnitude (yieldOf side + carried + past * tangentOf side i / e .0); tangent = getD (side .segments) i flat .tangent }
+      → (abscissa : Magnitude) → abscissa .0 ≡ a → (reading ≡ readingOf side e abscissa) × (reading .limit .0 ≤ abscissa .0)
+  unfolding readingOf limitAt tangentAt
+  stop stops reading is abscissa same =
+      let share : past * tangentOf side i / e .0 ≤ past = div-le-of-le-mul (e .0) (omega (arith, mul-le-mul-right past (r .readable .tangents-fit i (r .index)))) in (
+        rw (is, same, sum-at stops, mul-add-div (r .readable .modulus-positive) (yieldOf side + carried) (past * tangentOf side i), tangent-at stops),
+        rw (is, same) (omega (arith, r .room)),
       )
-
-  pub stop-within : i + 1 < side .count → past < e .0 * lengthAt side i → ReadsRight e side all carried past i
-  stop-within h before =
-      stop
-      (rw (from-segment side fits i h) (rise-within (e .0) (lengthAt side i) (tangentOf side i) (from side (i + 1)) past (omega arith)))
-      (rw (from-segment side fits i h) (tangent-within (e .0) (yieldOf side + (all - past)) (yieldOf side + all) (lengthAt side i) (tangentOf side i) (from side (i + 1)) (omega arith) (omega (arith, r .room))))
-
-  pub stop-last : i + 1 ≡ side .count → ReadsRight e side all carried past i
-  stop-last h =
-      stop
-      (rw (from-last side fits i h) (rise-last (e .0) (tangentOf side i) past))
-      (rw (from-last side fits i h) (tangent-last (e .0) (yieldOf side + (all - past)) (yieldOf side + all) (tangentOf side i) (omega arith)))
 
 -- A side of one segment is read there, from the yield on.
 pub alone : (e : Modulus) (side : Side) (a : Magnitude) → Readable side e → length (side .segments) ≡ 7 → a .0 < 2 ^ 64 → yieldOf side ≤ a .0 → side .count ≡ 1
     → (reading : Reading) → reading ≡ record { limit = magnitude (yieldOf side + (a .0 - yieldOf side) * tangentOf side 0 / e .0); tangent = getD (side .segments) 0 flat .tangent }
     → (reading ≡ readingOf side e a) × (reading .limit .0 ≤ a .0)
 alone e side a readable array word from-yield one reading is =
-    let all = a .0 - yieldOf side in
-    let lies : a .0 ≡ yieldOf side + all = omega arith in
-    let reached = begun e side all readable array (rw (← lies) word) in
-    stop-last reached (omega arith) reading (rw (add-zero (yieldOf side)) is) a lies
+    stop (begun e side (a .0) readable array word from-yield) (inl (omega arith)) reading (rw (add-zero (yieldOf side)) is) a refl
 
 -- Below the yield no segment is reached.
 pub below-yield : (e : Modulus) (side : Side) (a : Magnitude) → 0 < e .0 → a .0 < yieldOf side → record { limit = a; tangent = e } ≡ readingOf side e a

@@ -1,3 +1,4 @@
 pub mod Curve
 pub mod Tangent
 pub mod Sides
+pub mod Carried

@@ -63,7 +63,7 @@ impl Side {
         self.walk(modulus, abscissa)
     }
 
-    // One walk: each segment is taken once, and the rise so far is carried along.
+    // One walk: each segment is taken once, and the rise up to its start is carried along (SPEC 4.11).
     fn walk(self, modulus: Modulus, abscissa: Magnitude) -> Reading
         requires { ⌜ Readable self modulus × (self .«yield_stress» .0 ≤ abscissa .0) ⌝ }
         ensures { λ r. ⌜ r ≡ readingOf self modulus abscissa ⌝ }
@@ -77,11 +77,12 @@ impl Side {
         while i < last {
             let segment = self.segments[i];
             let span = segment.length.times(modulus);
+            let own_rise = segment.length.times(segment.tangent);
             if past.below(span) {
                 return segment.reading(modulus, yield_stress.plus(rise), past);
             }
             past = past.minus(span);
-            rise = rise.plus(segment.length.times(segment.tangent));
+            rise = rise.plus(own_rise);
             i += 1;
         }
         let segment = self.segments[last];

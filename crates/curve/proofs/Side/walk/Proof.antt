@@ -1,19 +1,32 @@
--- `Side::walk` meets its contract. The loop keeps `Reached`: what is carried is the rise up to the segment reached. Assumes nothing.
-use Prim.Native.Nat.{_+_, _-_, _≤_, _<_}
+-- `Side::walk` meets its contract. The loop keeps `Reached`: what is carried is T at the start of the segment reached, less the yield.
+-- Assumes nothing.
+use Prim.Native.Nat.{_+_, _-_, _*_, _≤_, _<_}
 use mathlib.Core.Path.{_≡_, sym, _∙_}
+use mathlib.Core.Logic.{inl, inr}
 use native.Mathlib.Omega.{arith}
 use lib.ListN.{length, length-map}
 use borrow.Author.Needs.{needs}
 use borrow.Author.Tests.{ltb-true, ltb-false}
-use Rattle.curve.proofs.Walk.{yieldOf, Reached, begun, span-fits, rise-at-most-span, onward, stop-within, stop-last}
+use Rattle.curve.specs.Sides.{curveOf, lengthAt, tangentOf}
+use Rattle.curve.specs.Carried.{Carries}
+use Rattle.curve.proofs.Walk.{yieldOf, Reached, begun, span-fits, rise-at-most-span, onward, stop}
 use Rattle.curve.proofs.Side.walk.Statement.{statement}
 use Rattle.curve.proofs.Side.walk.Tie as tie
 
 abbrev Inv-loop : tie.InvT-loop
-Inv-loop modulus self yield-stress last rise₀ past₀ i₀ rise past i = Reached modulus self (past₀ .0) (rise .0) (past .0) i
+Inv-loop modulus self yield-stress last rise₀ past₀ i₀ rise past i = Reached modulus self (yieldOf self + past₀ .0) (rise .0) (past .0) i
 
 abbrev μ-loop : tie.MeasureT-loop
 μ-loop modulus self yield-stress last rise₀ past₀ i₀ rise past i = last - i
+
+-- The function's start, seen from the loop.
+abbrev start : tie.At-loop Inv-loop μ-loop → tie.Start Inv-loop μ-loop
+start c = c .before .before .before
+
+-- SPEC 4.11: at each segment that the loop reaches, what it carries is T at the segment's start less the yield.
+pub walk-carries : (c : tie.At-loop Inv-loop μ-loop) (some : 0 < start c .args .modulus .0)
+    → Carries (start c .args .modulus .0) some (curveOf (start c .args .t1)) (c .loop .i) (c .loop .rise .0)
+walk-carries c = c .loop .inv .carries
 
 whole : (c : tie.After-minus Inv-loop μ-loop) → let s = c .before .before in s .args .abscissa .0 ≡ yieldOf (s .args .t1) + c .minus .result .0
 whole c = rw (c .minus .ensures) (omega (arith, c .before .before .pre .1))
@@ -24,80 +37,96 @@ seven s = simp length-map at (s .good .0 .1 .1 .1 .1 .0 .1 .0 .1)
 loop-holds : tie.Need-loop-holds Inv-loop μ-loop
 loop-holds c =
     let s = c .before .before in
-    begun (s .args .modulus) (s .args .t1) (c .minus .result .0) (s .pre .0) (seven s) (rw (← whole c) (search needs))
+    let all : s .args .abscissa .0 - yieldOf (s .args .t1) ≡ c .minus .result .0 = omega (arith, whole c) in
+    rw (all, whole c) at (begun (s .args .modulus) (s .args .t1) (s .args .abscissa .0) (s .pre .0) (seven s) (search needs) (s .pre .1))
 
 times-requires : tie.Need-times-requires Inv-loop μ-loop
 times-requires c κs = span-fits (c .before .before .loop .inv)
 
-within : (c : tie.Then1 Inv-loop μ-loop) → let loop = c .before .before .before .before .before .loop in loop .past .0 < c .before .before .times .result .0
+-- The loop's turn, seen from where the span is known.
+abbrev turn : tie.After-times Inv-loop μ-loop → tie.At-loop Inv-loop μ-loop
+turn c = c .before .before .before
+
+span-is : (c : tie.After-times Inv-loop μ-loop) → let loop = c .before .before .before in
+    c .times .result .0 ≡ start loop .args .modulus .0 * lengthAt (start loop .args .t1) (loop .loop .i)
+span-is c = rw (c .times .ensures) (omega arith)
+
+times-requires-2 : tie.Need-times-requires-2 Inv-loop μ-loop
+times-requires-2 c κs =
+    let inv = turn c .loop .inv in
+    omega (arith, span-fits inv, rise-at-most-span inv)
+
+own-rise-is : (c : tie.After-times2 Inv-loop μ-loop) → let loop = turn (c .before) in
+    c .times2 .result .0 ≡ tangentOf (start loop .args .t1) (loop .loop .i) * lengthAt (start loop .args .t1) (loop .loop .i)
+own-rise-is c = rw (c .times2 .ensures) (omega arith)
+
+within : (c : tie.Then1 Inv-loop μ-loop) → let times = c .before .before .before in turn times .loop .past .0 < times .times .result .0
 within c =
-    let loop = c .before .before .before .before .before .loop in
-    ltb-true (loop .past .0) (c .before .before .times .result .0) (sym (c .before .below .ensures) ∙ c .if1 .taken)
+    let times = c .before .before .before in
+    ltb-true (turn times .loop .past .0) (times .times .result .0) (sym (c .before .below .ensures) ∙ c .if1 .taken)
 
-ends : (c : tie.Else1 Inv-loop μ-loop) → let loop = c .before .before .before .before .before .loop in c .before .before .times .result .0 ≤ loop .past .0
+ends : (c : tie.Else1 Inv-loop μ-loop) → let times = c .before .before .before in times .times .result .0 ≤ turn times .loop .past .0
 ends c =
-    let loop = c .before .before .before .before .before .loop in
-    ltb-false (loop .past .0) (c .before .before .times .result .0) (sym (c .before .below .ensures) ∙ c .if1 .left)
-
--- The loop's turn, seen from its test.
-abbrev turn : tie.After-below Inv-loop μ-loop → tie.At-loop Inv-loop μ-loop
-turn c = c .before .before .before .before
+    let times = c .before .before .before in
+    ltb-false (turn times .loop .past .0) (times .times .result .0) (sym (c .before .below .ensures) ∙ c .if1 .left)
 
 plus-requires : tie.Need-plus-requires Inv-loop μ-loop
-plus-requires c κs = let inv = turn (c .before) .loop .inv in omega (arith, inv .word, inv .room)
+plus-requires c κs = let inv = turn (c .before .before .before) .loop .inv in omega (arith, inv .word, inv .room)
 
 reading-requires : tie.Need-reading-requires Inv-loop μ-loop
 reading-requires c κs =
-    let inv = turn (c .before .before) .loop .inv in
+    let inv = turn (c .before .before .before .before) .loop .inv in
     ((inv .readable .modulus-positive, inv .readable .tangents-fit _ (inv .index), inv .readable .modulus-fits), rw (c .plus .ensures) (omega (arith, inv .word, inv .room)))
 
 returns : tie.Need-returns Inv-loop μ-loop
 returns c =
     let then = c .before .before in
-    let times = then .before .before in
-    let turn = times .before .before in
-    stop-within (turn .before .loop .inv) (omega arith) (rw (times .times .ensures) at (within then)) (c .reading .result) (rw (c .before .plus .ensures) at (c .reading .ensures)) _ (whole (turn .before .before))
+    let times = then .before .before .before in
+    stop (turn times .loop .inv) (inr (omega arith, omega (arith, span-is times, within then))) (c .reading .result) (rw (c .before .plus .ensures) at (c .reading .ensures)) _ (whole (turn times .before))
 
 minus-requires-2 : tie.Need-minus-requires-2 Inv-loop μ-loop
 minus-requires-2 c κs = ends c
 
-times-requires-2 : tie.Need-times-requires-2 Inv-loop μ-loop
-times-requires-2 c κs =
-    let inv = turn (c .before .before) .loop .inv in
-    omega (arith, span-fits inv, rise-at-most-span inv)
-
 plus-requires-2 : tie.Need-plus-requires-2 Inv-loop μ-loop
 plus-requires-2 c κs =
-    let else = c .before .before in
-    let inv = turn (else .before) .loop .inv in
-    rw (c .times2 .ensures)
-    (omega (arith, inv .word, inv .room, rise-at-most-span inv, rw (else .before .before .times .ensures) at (ends else)))
+    let times2 = c .before .before .before in
+    let inv = turn (times2 .before) .loop .inv in
+    omega (arith, inv .word, inv .room, rise-at-most-span inv, span-is (times2 .before), ends (c .before), own-rise-is times2)
+
+-- What is carried on is the rise so far and the segment's own,
+carried-on : (c : tie.After-plus2 Inv-loop μ-loop) → let loop = turn (c .before .before .before .before .before) in
+    c .plus2 .result .0 ≡ loop .loop .rise .0 + tangentOf (start loop .args .t1) (loop .loop .i) * lengthAt (start loop .args .t1) (loop .loop .i)
+carried-on c = rw (c .plus2 .ensures) (omega (arith, own-rise-is (c .before .before .before .before)))
+
+-- and what lies beyond is less its span.
+past-on : (c : tie.After-plus2 Inv-loop μ-loop) → let loop = turn (c .before .before .before .before .before) in
+    c .before .minus2 .result .0 ≡ loop .loop .past .0 - start loop .args .modulus .0 * lengthAt (start loop .args .t1) (loop .loop .i)
+past-on c = rw (c .before .minus2 .ensures) (omega (arith, span-is (c .before .before .before .before .before)))
 
 loop-again : tie.Need-loop-again Inv-loop μ-loop
 loop-again c =
-    let else = c .before .before .before in
-    let times = else .before .before in
-    rw (c .plus2 .ensures, c .before .times2 .ensures, c .before .before .minus2 .ensures, times .times .ensures)
-    (onward (times .before .before .before .loop .inv) (omega arith) (rw (times .times .ensures) at (ends else)))
+    let else = c .before .before in
+    let times = else .before .before .before in
+    rw (carried-on c, past-on c) (onward (turn times .loop .inv) (omega arith) (omega (arith, span-is times, ends else)))
 
 plus-requires-3 : tie.Need-plus-requires-3 Inv-loop μ-loop
 plus-requires-3 c κs = let inv = c .before .before .loop .inv in omega (arith, inv .word, inv .room)
+
+at-last : (c : tie.After-loop Inv-loop μ-loop) → start (c .before) .args .t1 .count - 1 ≡ c .before .loop .i
+at-last c = omega (arith, c .before .loop .inv .index)
 
 reading-requires-2 : tie.Need-reading-requires-2 Inv-loop μ-loop
 reading-requires-2 c κs =
     let loop = c .before .before .before in
     let inv = loop .loop .inv in
-    let fit = inv .readable .tangents-fit (loop .before .before .before .args .t1 .count - 1) (omega (arith, inv .readable .count-positive)) in
-    ((omega (arith, inv .readable .modulus-positive), omega (arith, fit, inv .readable .modulus-fits), omega (arith, inv .readable .modulus-fits)), rw (c .plus3 .ensures) (omega (arith, inv .word, inv .room)))
-
-at-last : (c : tie.After-loop Inv-loop μ-loop) → c .before .before .before .before .args .t1 .count - 1 ≡ c .before .loop .i
-at-last c = omega (arith, c .before .loop .inv .index)
+    let fit = inv .readable .tangents-fit (start loop .args .t1 .count - 1) (omega (arith, inv .readable .count-positive)) in
+    ((inv .readable .modulus-positive, fit, inv .readable .modulus-fits), rw (c .plus3 .ensures) (omega (arith, inv .word, inv .room)))
 
 returns-2 : tie.Need-returns-2 Inv-loop μ-loop
 returns-2 c =
     let after = c .before .before .before in
     let inv = after .before .loop .inv in
-    stop-last inv (omega (arith, inv .index, at-last after)) (c .reading2 .result) (rw (c .before .plus3 .ensures, at-last after) at (c .reading2 .ensures)) _ (whole (after .before .before))
+    stop inv (inl (omega (arith, inv .index, at-last after))) (c .reading2 .result) (rw (c .before .plus3 .ensures, at-last after) at (c .reading2 .ensures)) _ (whole (after .before .before))
 
 pub walk-spec : {M : Type 1} → statement M
 walk-spec =
@@ -111,12 +140,12 @@ walk-spec =
     (λ c. search needs)
     (λ c. search needs)
     times-requires
+    times-requires-2
     (λ c κs. search needs)
     plus-requires
     reading-requires
     returns
     minus-requires-2
-    times-requires-2
     plus-requires-2
     (λ c. search needs)
     (λ c. search needs)
