@@ -8,7 +8,7 @@ use lib.ListN.{length, length-map}
 use borrow.Author.Needs.{needs}
 use borrow.Author.Tests.{ltb-true, ltb-false}
 use Rattle.curve.specs.Sides.{curveOf, lengthAt, tangentOf}
-use Rattle.curve.specs.Carried.{Carries}
+use Rattle.curve.specs.Carried.{spanAt, Carries}
 use Rattle.curve.proofs.Walk.{yieldOf, Reached, begun, span-fits, rise-at-most-span, onward, stop}
 use Rattle.curve.proofs.Side.walk.Statement.{statement}
 use Rattle.curve.proofs.Side.walk.Tie as tie
@@ -23,13 +23,15 @@ abbrev μ-loop : tie.MeasureT-loop
 abbrev start : tie.At-loop Inv-loop μ-loop → tie.Start Inv-loop μ-loop
 start c = c .before .before .before
 
--- SPEC 4.11: at each segment that the loop reaches, what it carries is T at the segment's start less the yield.
-pub walk-carries : (c : tie.At-loop Inv-loop μ-loop) (some : 0 < start c .args .modulus .0)
-    → Carries (start c .args .modulus .0) some (curveOf (start c .args .t1)) (c .loop .i) (c .loop .rise .0)
-walk-carries c = c .loop .inv .carries
-
 whole : (c : tie.After-minus Inv-loop μ-loop) → let s = c .before .before in s .args .abscissa .0 ≡ yieldOf (s .args .t1) + c .minus .result .0
 whole c = rw (c .minus .ensures) (omega (arith, c .before .before .pre .1))
+
+-- SPEC 4.11: each i that the loop reaches is a segment of the side. What is carried there is T at its start less the yield, and what is left
+-- of the abscissa lies beyond that start.
+pub walk-carries : (c : tie.At-loop Inv-loop μ-loop) (some : 0 < start c .args .modulus .0)
+    → let E = start c .args .modulus .0 in let side = start c .args .t1 in
+    (c .loop .i < side .count) × Carries E some (curveOf side) (c .loop .i) (c .loop .rise .0) × (spanAt E (curveOf side) (c .loop .i) .start + c .loop .past .0 ≡ start c .args .abscissa .0)
+walk-carries c some = let inv = c .loop .inv in (inv .index, inv .carries some, inv .lies ∙ sym (whole (c .before)))
 
 seven : (s : tie.Start Inv-loop μ-loop) → length (s .args .t1 .segments) ≡ 7
 seven s = simp length-map at (s .good .0 .1 .1 .1 .1 .0 .1 .0 .1)
