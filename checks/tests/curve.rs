@@ -1,6 +1,6 @@
-//! The curve at the starts of its segments, where every version and the rules
-//! are held against sums of whole numbers: T there is the yield and what the
-//! segments before it rise by, and nothing is rounded (SPEC 4.11).
+//! The curve at the starts of the segments behind the first, where every
+//! version and the rules are held against sums of whole numbers: T there is the
+//! yield and what the segments before rise by, and nothing is rounded (SPEC 4.11).
 
 use checks::call::{difference, Call, Entry};
 use checks::generate::{sheet_bytes, with_buffers};

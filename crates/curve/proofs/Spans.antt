@@ -9,10 +9,10 @@ use native.Mathlib.Omega.{arith}
 use lib.ListN.{length, drop, getD}
 use lib.Seq.{getD-drop, drop-drop}
 use Rattle.curve.specs.declared.Side.{Side}
-use Rattle.curve.specs.Curve.{Segments, last, segment}
+use Rattle.curve.specs.Curve.{Segments, last, segment, Curve}
 use Rattle.curve.specs.Tangent.{at, nowhere, Span, spans}
 use Rattle.curve.specs.Sides.{curveOf, lengthAt, tangentOf}
-use Rattle.curve.specs.Carried.{spanAt}
+use Rattle.curve.specs.Carried.{behindLast, spanAt}
 use Rattle.curve.proofs.SegmentsFrom.{from, from-segment, from-last}
 
 member-at : (i : ℕ) (xs : List Span) (otherwise : Span) → 0 < length (drop i xs) → List·Memᴰ (getD xs i otherwise) xs
@@ -32,6 +32,9 @@ unfolding spans
 first-start E start (last t) otherwise = refl
 first-start E start (segment length t rest) otherwise = refl
 
+pub span-first : (E : ℕ) (c : Curve) → spanAt E c 0 .start ≡ c .yield
+span-first E c = first-start E (c .yield) (c .segments) _
+
 module _ (E : ℕ) (side : Side) (fits : side .count ≤ length (side .segments)) where
   abbrev all : List Span
   all = spans E (curveOf side .yield) (curveOf side .segments)
@@ -39,23 +42,20 @@ module _ (E : ℕ) (side : Side) (fits : side .count ≤ length (side .segments)
   abbrev startAt : ℕ → ℕ
   startAt i = spanAt E (curveOf side) i .start
 
-  pub span-first : startAt 0 ≡ curveOf side .yield
-  span-first = first-start E (curveOf side .yield) (curveOf side .segments) _
-
   -- The segments from i on have the spans from i on, the first of which is at `start`.
   abbrev SpansFrom : (i start : ℕ) → Type 0
   SpansFrom i start = drop i all ≡ spans E start (from side i)
 
   abbrev none : Span
-  none = record { start = curveOf side .yield; end = nowhere; tangent = 0 }
+  none = behindLast (curveOf side)
 
-  span-is : (i start : ℕ) → SpansFrom i start → spanAt E (curveOf side) i ≡ getD (spans E start (from side i)) 0 none
-  span-is i start is =
+  span-at-head : (i start : ℕ) → SpansFrom i start → spanAt E (curveOf side) i ≡ getD (spans E start (from side i)) 0 none
+  span-at-head i start is =
       let same : i + 0 ≡ i = omega arith in
       ap (λ (n : ℕ). getD all n none) (sym same) ∙ sym (getD-drop i all 0 none) ∙ ap (λ (xs : List Span). getD xs 0 none) is
 
   start-is : (i start : ℕ) → SpansFrom i start → startAt i ≡ start
-  start-is i start is = ap (λ (p : Span). p .start) (span-is i start is) ∙ first-start E start (from side i) none
+  start-is i start is = ap (λ (p : Span). p .start) (span-at-head i start is) ∙ first-start E start (from side i) none
 
   spans-onward : (i start : ℕ) → i + 1 < side .count → SpansFrom i start → SpansFrom (i + 1) (start + E * lengthAt side i)
   unfolding spans
@@ -63,7 +63,7 @@ module _ (E : ℕ) (side : Side) (fits : side .count ≤ length (side .segments)
 
   spans-from : (i : ℕ) → i < side .count → SpansFrom i (startAt i)
   unfolding curveOf from
-  spans-from zero h = rw span-first
+  spans-from zero h = rw (span-first E (curveOf side))
   spans-from (suc i) h =
       let next = spans-onward i (startAt i) (omega arith) (spans-from i (omega arith)) in
       rw (← add-one i, start-is (i + 1) (startAt i + E * lengthAt side i) next) next
@@ -71,11 +71,11 @@ module _ (E : ℕ) (side : Side) (fits : side .count ≤ length (side .segments)
   module _ (i : ℕ) where
     span-between : i + 1 < side .count → spanAt E (curveOf side) i ≡ record { start = startAt i; end = at (startAt i + E * lengthAt side i); tangent = tangentOf side i }
     unfolding spans
-    span-between h = span-is i (startAt i) (spans-from i (omega arith)) ∙ rw (from-segment side fits i h)
+    span-between h = span-at-head i (startAt i) (spans-from i (omega arith)) ∙ rw (from-segment side fits i h)
 
     span-last : i + 1 ≡ side .count → spanAt E (curveOf side) i ≡ record { start = startAt i; end = nowhere; tangent = tangentOf side i }
     unfolding spans
-    span-last h = span-is i (startAt i) (spans-from i (omega arith)) ∙ rw (from-last side fits i h)
+    span-last h = span-at-head i (startAt i) (spans-from i (omega arith)) ∙ rw (from-last side fits i h)
 
     -- A segment that another one follows ends where that one starts,
     pub span-next : i + 1 < side .count → startAt (i + 1) ≡ startAt i + E * lengthAt side i

@@ -6,7 +6,7 @@ use mathlib.Core.List.{_∷_, List·Memᴰ, List·Memᴰ·head, List·Memᴰ·ta
 use mathlib.Core.Logic.{⊎-elim}
 use native.Mathlib.Decide.{decLe}
 use native.Mathlib.Omega.{arith}
-use lib.Dec.{T, leb, leb→le}
+use lib.Dec.{T, leb, leb→le, ltb→lt}
 use mir.Facts.{and-yes}
 use borrow.Author.Tests.{lt-ltb, le-ltb, le-leb, lt-leb}
 use Rattle.curve.specs.Curve.{Segments, last, segment, rise, height}
@@ -86,6 +86,14 @@ abbrev pub UpTo : End → ℕ → Type 0
 UpTo (at end) a = a ≤ end
 UpTo nowhere a = Unit {0}
 
+-- A segment that holds an abscissa doesn't end before it.
+pub held-up-to : (p : Span) (a : ℕ) → T (holds p a) → UpTo (p .end) a
+held-up-to p a held = go (p .end) (and-yes (leb (p .start) a) (before a (p .end)) held .1)
+  where
+    go : (end : End) → T (before a end) → UpTo end a
+    go (at end) h = omega (arith, ltb→lt a end h)
+    go nowhere h = tt
+
 -- t over x and over y.
 slope-adds : (t start a b : ℕ) → start ≤ a → a ≤ b → t * (b - start) ≡ t * (a - start) + t * (b - a)
 slope-adds t start a b h k =
@@ -93,7 +101,7 @@ slope-adds t start a b h k =
     rw parts (omega arith)
 
 -- Over a segment, from a to b, E times the rise is its tangent times b - a.
-pub tangent-is-slope : (E start : ℕ) (segments : Segments) (p : Span) → List·Memᴰ p (spans E start segments) → (a b : ℕ) → p .start ≤ a → a ≤ b → UpTo (p .end) b
+tangent-is-slope : (E start : ℕ) (segments : Segments) (p : Span) → List·Memᴰ p (spans E start segments) → (a b : ℕ) → p .start ≤ a → a ≤ b → UpTo (p .end) b
     → rise E segments (b - start) ≡ rise E segments (a - start) + p .tangent * (b - a)
 unfolding spans
 tangent-is-slope E start (last t) p m a b from h to =

@@ -1,5 +1,5 @@
 -- The walk over the segments of a side: what is true at each segment that it reaches, and what it reads where it stops. Assumes nothing.
-use Prim.Native.Nat.{ℕ, _+_, _-_, _*_, _/_, _^_, _≤_, _<_, min}
+use Prim.Native.Nat.{ℕ, _+_, _-_, _*_, _/_, _^_, _≤_, _<_}
 use mathlib.Core.Path.{_≡_, refl, _∙_}
 use mathlib.Core.Logic.{_⊎_, inl, inr}
 use native.Mathlib.Nat.{add-zero, mul-add-div, mul-div-right, mul-le-mul, mul-le-mul-right, div-le-of-le-mul}
@@ -12,12 +12,12 @@ use Rattle.units.specs.declared.Magnitude.{Magnitude}
 use Rattle.units.specs.declared.Modulus.{Modulus}
 use Rattle.curve.specs.declared.Side.{Side}
 use Rattle.curve.specs.declared.Reading.{Reading}
-use Rattle.curve.specs.Curve.{rise, height, limitAt}
+use Rattle.curve.specs.Curve.{height, limitAt}
 use Rattle.curve.specs.Tangent.{holds, tangentAt}
 use Rattle.curve.specs.Sides.{segmentsOf, curveOf, readingOf, flat, Readable, lengthAt, tangentOf}
 use Rattle.curve.specs.Carried.{spanAt, Carries}
-use Rattle.curve.proofs.Rise.{rise-zero}
-use Rattle.curve.proofs.Tangents.{tangent-below, tangent-of-holder, UpTo}
+use Rattle.curve.proofs.Height.{height-below-yield}
+use Rattle.curve.proofs.Tangents.{tangent-below, tangent-of-holder, held-up-to}
 use Rattle.curve.proofs.Spans.{span-first, span-next, span-end, span-endless, span-tangent, span-member}
 use Rattle.curve.proofs.Carried.{carries-sum, sum-over-segment, carried-first, carried-next}
 
@@ -38,14 +38,13 @@ pub record Reached (e : Modulus) (side : Side) (a carried past i : ℕ) : Type 0
 pub begun : (e : Modulus) (side : Side) (a : ℕ) → Readable side e → length (side .segments) ≡ 7 → a < 2 ^ 64 → yieldOf side ≤ a → Reached e side a 0 (a - yieldOf side) 0
 unfolding curveOf
 begun e side a readable array word from-yield =
-    let fits : side .count ≤ length (side .segments) = omega (arith, readable .count-fits) in
     record {
       readable = readable;
       array = array;
       word = word;
       index = readable .count-positive;
-      carries = λ some. carried-first (e .0) some side fits;
-      lies = omega (arith, span-first (e .0) side fits);
+      carries = λ some. carried-first (e .0) some (curveOf side);
+      lies = omega (arith, span-first (e .0) (curveOf side));
       room = omega arith;
     }
 
@@ -62,15 +61,15 @@ module _ {e : Modulus} {side : Side} {a carried past i : ℕ} (r : Reached e sid
   rise-at-most-span = mul-le-mul-right (lengthAt side i) (r .readable .tangents-fit i (r .index))
 
   -- the segment ends before the abscissa, or where it is: the next one is reached
-  pub onward : i + 1 < side .count → e .0 * lengthAt side i ≤ past
-      → Reached e side a (carried + tangentOf side i * lengthAt side i) (past - e .0 * lengthAt side i) (i + 1)
-  onward h ends =
+  pub onward : {carried′ past′ : ℕ} → i + 1 < side .count → e .0 * lengthAt side i ≤ past → carried′ ≡ carried + tangentOf side i * lengthAt side i → past′ ≡ past - e .0 * lengthAt side i
+      → Reached e side a carried′ past′ (i + 1)
+  onward h ends carried-is past-is =
       record {
         readable = r .readable;
         array = r .array;
         word = r .word;
         index = h;
-        carries = λ some. carried-next (e .0) some side fits i carried h (r .carries some);
+        carries = λ some. rw carried-is (carried-next (e .0) some side fits i carried h (r .carries some));
         lies = omega (arith, r .lies, span-next (e .0) side fits i h);
         room = omega (arith, r .room, rise-at-most-span);
       }
@@ -85,18 +84,13 @@ module _ {e : Modulus} {side : Side} {a carried past i : ℕ} (r : Reached e sid
       rw (le-leb (spanAt (e .0) (curveOf side) i .start) a (omega (arith, r .lies)), span-end (e .0) side fits i goes-on)
       (rw (lt-ltb a (spanAt (e .0) (curveOf side) (i + 1) .start) (omega (arith, r .lies, span-next (e .0) side fits i goes-on))) tt)
 
-  up-to-abscissa : Stops → UpTo (spanAt (e .0) (curveOf side) i .end) a
-  up-to-abscissa (inl ends) = rw (span-endless (e .0) side fits i ends) tt
-  up-to-abscissa (inr (goes-on, before)) =
-      rw (span-end (e .0) side fits i goes-on) (omega (arith, r .lies, span-next (e .0) side fits i goes-on))
-
   -- There the sum of SPEC 4.4 is what is carried and what the segment adds,
   sum-at : Stops → height (e .0) (e .0) (curveOf side .yield) (curveOf side .segments) a ≡ e .0 * (yieldOf side + carried) + past * tangentOf side i
   unfolding curveOf
   sum-at stops =
       let gap : a - spanAt (e .0) (curveOf side) i .start ≡ past = omega (arith, r .lies) in
       let some = r .readable .modulus-positive in
-      let over = sum-over-segment (e .0) some side fits i a (r .index) (omega (arith, r .lies)) (up-to-abscissa stops) in
+      let over = sum-over-segment (e .0) side fits i a (r .index) (omega (arith, r .lies)) (held-up-to (spanAt (e .0) (curveOf side) i) a (holds-abscissa stops)) in
       rw (over, carries-sum (e .0) some (curveOf side) i carried .0 (r .carries some), gap) (omega arith)
 
   -- and the tangent is the segment's.
@@ -125,10 +119,7 @@ alone e side a readable array word from-yield one reading is =
 
 -- Below the yield no segment is reached.
 pub below-yield : (e : Modulus) (side : Side) (a : Magnitude) → 0 < e .0 → a .0 < yieldOf side → record { limit = a; tangent = e } ≡ readingOf side e a
-unfolding readingOf curveOf limitAt tangentAt height
+unfolding readingOf curveOf limitAt tangentAt
 below-yield e side a some h =
     let segments = segmentsOf (take (side .count) (side .segments)) in
-    let below : min (a .0) (yieldOf side) ≡ a .0 = omega arith in
-    let start : a .0 - yieldOf side ≡ 0 = omega arith in
-    let whole : e .0 * a .0 + rise (e .0) segments 0 ≡ e .0 * a .0 = rw (rise-zero (e .0) segments) (omega arith) in
-    rw (below, start, whole, mul-div-right (a .0) some, tangent-below (e .0) (a .0) segments (yieldOf side) h)
+    rw (height-below-yield (e .0) (e .0) (yieldOf side) segments (a .0) (omega arith), mul-div-right (a .0) some, tangent-below (e .0) (a .0) segments (yieldOf side) h)

@@ -6,9 +6,13 @@ use Rattle.fractions.specs.Fraction.{whole, _≈F_, _-F_}
 use Rattle.curve.specs.Curve.{Curve, limitF}
 use Rattle.curve.specs.Tangent.{Span, nowhere, spans}
 
--- SPEC 4.2: segment i of a curve on the axis of abscissas, counted from 0. Behind the last one stands a flat one at the yield.
+-- SPEC 4.2: what stands behind the last segment, so that every i has a span: a flat one at the yield.
+abbrev pub behindLast : Curve → Span
+behindLast c = record { start = c .yield; end = nowhere; tangent = 0 }
+
+-- SPEC 4.2: segment i of a curve on the axis of abscissas, counted from 0, where SPEC counts from 1.
 abbrev pub spanAt : (E : ℕ) → Curve → ℕ → Span
-spanAt E c i = getD (spans E (c .yield) (c .segments)) i (record { start = c .yield; end = nowhere; tangent = 0 })
+spanAt E c i = getD (spans E (c .yield) (c .segments)) i (behindLast c)
 
 -- SPEC 4.11: `rise` is what is to be carried where segment i is reached: T at its start less the yield, T being the fraction.
 abbrev pub Carries : (E : ℕ) → 0 < E → Curve → (i rise : ℕ) → Type 0

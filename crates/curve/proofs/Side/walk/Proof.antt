@@ -1,12 +1,13 @@
 -- `Side::walk` meets its contract. The loop keeps `Reached`: what is carried is T at the start of the segment reached, less the yield.
 -- Assumes nothing.
 use Prim.Native.Nat.{_+_, _-_, _*_, _≤_, _<_}
-use mathlib.Core.Path.{_≡_, sym, _∙_}
+use mathlib.Core.Path.{_≡_, sym, _∙_, ap}
 use mathlib.Core.Logic.{inl, inr}
 use native.Mathlib.Omega.{arith}
 use lib.ListN.{length, length-map}
 use borrow.Author.Needs.{needs}
 use borrow.Author.Tests.{ltb-true, ltb-false}
+use Rattle.units.specs.declared.Magnitude.{Magnitude}
 use Rattle.curve.specs.Sides.{curveOf, lengthAt, tangentOf}
 use Rattle.curve.specs.Carried.{spanAt, Carries}
 use Rattle.curve.proofs.Walk.{yieldOf, Reached, begun, span-fits, rise-at-most-span, onward, stop}
@@ -26,13 +27,6 @@ start c = c .before .before .before
 whole : (c : tie.After-minus Inv-loop μ-loop) → let s = c .before .before in s .args .abscissa .0 ≡ yieldOf (s .args .t1) + c .minus .result .0
 whole c = rw (c .minus .ensures) (omega (arith, c .before .before .pre .1))
 
--- SPEC 4.11: each i that the loop reaches is a segment of the side. What is carried there is T at its start less the yield, and what is left
--- of the abscissa lies beyond that start.
-pub walk-carries : (c : tie.At-loop Inv-loop μ-loop) (some : 0 < start c .args .modulus .0)
-    → let E = start c .args .modulus .0 in let side = start c .args .t1 in
-    (c .loop .i < side .count) × Carries E some (curveOf side) (c .loop .i) (c .loop .rise .0) × (spanAt E (curveOf side) (c .loop .i) .start + c .loop .past .0 ≡ start c .args .abscissa .0)
-walk-carries c some = let inv = c .loop .inv in (inv .index, inv .carries some, inv .lies ∙ sym (whole (c .before)))
-
 seven : (s : tie.Start Inv-loop μ-loop) → length (s .args .t1 .segments) ≡ 7
 seven s = simp length-map at (s .good .0 .1 .1 .1 .1 .0 .1 .0 .1)
 
@@ -45,13 +39,16 @@ loop-holds c =
 times-requires : tie.Need-times-requires Inv-loop μ-loop
 times-requires c κs = span-fits (c .before .before .loop .inv)
 
+number : {m n : Magnitude} → m ≡ n → m .0 ≡ n .0
+number is = ap (λ (m : Magnitude). m .0) is
+
 -- The loop's turn, seen from where the span is known.
 abbrev turn : tie.After-times Inv-loop μ-loop → tie.At-loop Inv-loop μ-loop
 turn c = c .before .before .before
 
-span-is : (c : tie.After-times Inv-loop μ-loop) → let loop = c .before .before .before in
+span-is : (c : tie.After-times Inv-loop μ-loop) → let loop = turn c in
     c .times .result .0 ≡ start loop .args .modulus .0 * lengthAt (start loop .args .t1) (loop .loop .i)
-span-is c = rw (c .times .ensures) (omega arith)
+span-is c = omega (arith, number (c .times .ensures))
 
 times-requires-2 : tie.Need-times-requires-2 Inv-loop μ-loop
 times-requires-2 c κs =
@@ -60,7 +57,7 @@ times-requires-2 c κs =
 
 own-rise-is : (c : tie.After-times2 Inv-loop μ-loop) → let loop = turn (c .before) in
     c .times2 .result .0 ≡ tangentOf (start loop .args .t1) (loop .loop .i) * lengthAt (start loop .args .t1) (loop .loop .i)
-own-rise-is c = rw (c .times2 .ensures) (omega arith)
+own-rise-is c = omega (arith, number (c .times2 .ensures))
 
 within : (c : tie.Then1 Inv-loop μ-loop) → let times = c .before .before .before in turn times .loop .past .0 < times .times .result .0
 within c =
@@ -95,21 +92,31 @@ plus-requires-2 c κs =
     let inv = turn (times2 .before) .loop .inv in
     omega (arith, inv .word, inv .room, rise-at-most-span inv, span-is (times2 .before), ends (c .before), own-rise-is times2)
 
+-- Both products of the turn, seen from its end.
+abbrev products : tie.After-plus2 Inv-loop μ-loop → tie.After-times2 Inv-loop μ-loop
+products c = c .before .before .before .before
+
 -- What is carried on is the rise so far and the segment's own,
-carried-on : (c : tie.After-plus2 Inv-loop μ-loop) → let loop = turn (c .before .before .before .before .before) in
+carried-on : (c : tie.After-plus2 Inv-loop μ-loop) → let loop = turn (products c .before) in
     c .plus2 .result .0 ≡ loop .loop .rise .0 + tangentOf (start loop .args .t1) (loop .loop .i) * lengthAt (start loop .args .t1) (loop .loop .i)
-carried-on c = rw (c .plus2 .ensures) (omega (arith, own-rise-is (c .before .before .before .before)))
+carried-on c = omega (arith, number (c .plus2 .ensures), own-rise-is (products c))
 
 -- and what lies beyond is less its span.
-past-on : (c : tie.After-plus2 Inv-loop μ-loop) → let loop = turn (c .before .before .before .before .before) in
+past-on : (c : tie.After-plus2 Inv-loop μ-loop) → let loop = turn (products c .before) in
     c .before .minus2 .result .0 ≡ loop .loop .past .0 - start loop .args .modulus .0 * lengthAt (start loop .args .t1) (loop .loop .i)
-past-on c = rw (c .before .minus2 .ensures) (omega (arith, span-is (c .before .before .before .before .before)))
+past-on c = omega (arith, number (c .before .minus2 .ensures), span-is (products c .before))
 
 loop-again : tie.Need-loop-again Inv-loop μ-loop
 loop-again c =
-    let else = c .before .before in
-    let times = else .before .before .before in
-    rw (carried-on c, past-on c) (onward (turn times .loop .inv) (omega arith) (omega (arith, span-is times, ends else)))
+    let times = products c .before in
+    onward (turn times .loop .inv) (omega arith) (omega (arith, span-is times, ends (c .before .before))) (carried-on c) (past-on c)
+
+-- SPEC 4.11: the loop begins with the invariant and keeps it from turn to turn. By it each i that the loop reaches is a segment of the side,
+-- what is carried there is T at its start less the yield, and what is left of the abscissa lies beyond that start.
+pub walk-carries : tie.Need-loop-holds Inv-loop μ-loop × tie.Need-loop-again Inv-loop μ-loop × ((c : tie.At-loop Inv-loop μ-loop)
+    → let s = start c in let E = s .args .modulus .0 in let curve = curveOf (s .args .t1) in
+    (c .loop .i < s .args .t1 .count) × Carries E (s .pre .0 .modulus-positive) curve (c .loop .i) (c .loop .rise .0) × (spanAt E curve (c .loop .i) .start + c .loop .past .0 ≡ s .args .abscissa .0))
+walk-carries = (loop-holds, loop-again, λ c. let inv = c .loop .inv in (inv .index, inv .carries (start c .pre .0 .modulus-positive), inv .lies ∙ sym (whole (c .before))))
 
 plus-requires-3 : tie.Need-plus-requires-3 Inv-loop μ-loop
 plus-requires-3 c κs = let inv = c .before .before .loop .inv in omega (arith, inv .word, inv .room)
