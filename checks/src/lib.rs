@@ -19,7 +19,7 @@ pub mod rules;
 pub mod section;
 pub mod steer;
 
-use call::{Call, Outcome};
+use call::{difference, Call, Outcome};
 
 pub type Version = fn(&Call) -> Outcome;
 
@@ -29,3 +29,14 @@ pub const VERSIONS: &[(&str, Version)] = &[
     #[cfg(feature = "library")]
     ("library", library::call),
 ];
+
+/// What the rules ask of a call. Panics where a version leaves something else.
+pub fn agreed(call: &Call) -> Outcome {
+    let wanted = rules::call(call);
+    for (name, version) in VERSIONS {
+        if let Some(text) = difference(&wanted, &version(call)) {
+            panic!("{name} differs from the rules\n{call}{text}");
+        }
+    }
+    wanted
+}

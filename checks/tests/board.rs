@@ -1,13 +1,13 @@
 //! The board (SPEC 13): every row, by the rules, by the quick version and by the
 //! library. Beside it some thermal strains by points, worked by hand.
 
-use checks::call::{difference, Call, Entry, Outcome};
+use checks::agreed;
+use checks::call::{Call, Entry, Outcome};
 use checks::fraction::Fraction;
 use checks::generate::sheet_bytes;
 use checks::layout;
 use checks::log::{line, steel, with_points};
 use checks::rules::{self, Row};
-use checks::VERSIONS;
 
 /// A run from the unused rod: what it leaves, the same by every version.
 fn run(sheet: &[u8], changes: &[(i64, i64)]) -> (Outcome, Vec<Row>, Vec<u8>) {
@@ -19,7 +19,7 @@ fn run(sheet: &[u8], changes: &[(i64, i64)]) -> (Outcome, Vec<Row>, Vec<u8>) {
         rows: Vec::new(),
         next: vec![0xee; 37],
     };
-    let state = same(&unused).next;
+    let state = agreed(&unused).next;
     let pairs =
         changes.iter().flat_map(|&(change, temperature)| layout::write(&layout::PAIR, [0, change, temperature]));
     let call = Call {
@@ -30,19 +30,9 @@ fn run(sheet: &[u8], changes: &[(i64, i64)]) -> (Outcome, Vec<Row>, Vec<u8>) {
         rows: vec![0xee; 16 * changes.len()],
         next: vec![0xee; 37],
     };
-    let outcome = same(&call);
+    let outcome = agreed(&call);
     let rows = outcome.rows.chunks(16).take(outcome.accepted(&call.pairs)).map(Row::read).collect();
     (outcome, rows, state)
-}
-
-fn same(call: &Call) -> Outcome {
-    let wanted = rules::call(call);
-    for (name, version) in VERSIONS {
-        if let Some(text) = difference(&wanted, &version(call)) {
-            panic!("{name} differs from the rules\n{call}{text}");
-        }
-    }
-    wanted
 }
 
 /// The stresses of an accepted run at the reference temperature.

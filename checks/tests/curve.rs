@@ -2,12 +2,12 @@
 //! version and the rules are held against sums of whole numbers: T there is the
 //! yield and what the segments before rise by, and nothing is rounded (SPEC 4.11).
 
-use checks::call::{difference, Call, Entry};
+use checks::agreed;
+use checks::call::{Call, Entry};
 use checks::generate::{sheet_bytes, with_buffers};
 use checks::layout::{self, STATE};
 use checks::random::Random;
 use checks::rules::{self, Row};
-use checks::VERSIONS;
 
 const CURVES: usize = 10_000;
 /// Six segments with an end take a rod no further than its strain may go.
@@ -46,12 +46,7 @@ impl Curve {
 
 /// The row and the abscissa that a pull leaves, the same by every version.
 fn pulled(call: &Call) -> (Row, i64) {
-    let wanted = rules::call(call);
-    for (name, version) in VERSIONS {
-        if let Some(text) = difference(&wanted, &version(call)) {
-            panic!("{name} differs from the rules\n{call}{text}");
-        }
-    }
+    let wanted = agreed(call);
     assert_eq!(wanted.answer, 0);
     (Row::read(&wanted.rows), layout::read(&STATE, &wanted.next)[6])
 }

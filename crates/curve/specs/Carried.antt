@@ -6,7 +6,7 @@ use Rattle.fractions.specs.Fraction.{whole, _≈F_, _-F_}
 use Rattle.curve.specs.Curve.{Curve, limitF}
 use Rattle.curve.specs.Tangent.{Span, nowhere, spans}
 
--- SPEC 4.2: what stands behind the last segment, so that every i has a span: a flat one at the yield.
+-- SPEC 4.2: behind the last segment there is none. This stands for one there, so that every i has a span: flat, at the yield.
 abbrev pub behindLast : Curve → Span
 behindLast c = record { start = c .yield; end = nowhere; tangent = 0 }
 
