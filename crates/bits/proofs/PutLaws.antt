@@ -1,11 +1,12 @@
 -- Laws of bytes written into a buffer.
-use Prim.Native.Nat.{ℕ, zero, suc, _+_, _/_, _%_, _≤_, _<_}
+use Prim.Native.Nat.{ℕ, zero, suc, _+_, _-_, _/_, _%_, _≤_, _<_}
 use mathlib.Core.Path.{_≡_, refl, sym, ap, ap₂, _∙_}
 use mathlib.Core.List.{List, [], _∷_, _++_, append-assoc, append-nil}
 use native.Mathlib.Nat.{add-zero, add-suc}
 use native.Mathlib.Omega.{arith}
 use lib.ListN.{length, take, drop, set, length-append, length-drop, length-set, take-append-drop, drop-of-length-le}
-use lib.Seq.{take-set-le, drop-cons, drop-set-lt, getD-set-same, take-at, take-take, drop-drop, length-take-le, take-append-le, drop-append-add, drop-append-seam}
+use lib.Seq.{take-length, take-set-le, drop-cons, drop-set-lt, getD-set-same, take-at, take-take, drop-drop, length-take-le, take-append-le, drop-append-add, drop-append-seam}
+use borrow.Rule.Slice.PartMut.{putMid, midOf, mid-len, post-is}
 use Rattle.bits.specs.Layout.{bytesOf, put}
 
 pub length-bytesOf : (n x : ℕ) → length (bytesOf n x) ≡ n
@@ -21,6 +22,18 @@ put-nothing buffer at = rw (add-zero at) (take-append-drop at buffer)
 pub put-whole : (buffer bytes : List ℕ) → length buffer ≡ length bytes → put buffer 0 bytes ≡ bytes
 unfolding put
 put-whole buffer bytes e = ap (λ (l : List ℕ). bytes ++ l) (drop-of-length-le buffer {i = 0 + length bytes} (omega (arith, e))) ∙ append-nil bytes
+
+-- Bytes copied into the part of a buffer that is as long as they are.
+pub put-part : (buffer bytes part : List ℕ) (at : ℕ) → at + length bytes ≤ length buffer
+    → part ≡ take (length bytes) bytes ++ drop (length bytes) (midOf at (at + length bytes - at) buffer)
+    → putMid at (at + length bytes - at) buffer part ≡ put buffer at bytes
+unfolding put
+put-part buffer bytes part at room h =
+    let end = at + length bytes in
+    let all : drop (length bytes) (midOf at (end - at) buffer) ≡ [] =
+    drop-of-length-le (midOf at (end - at) buffer) {i = length bytes} (omega (arith, mid-len at end buffer room)) in
+    let is : part ≡ bytes = h ∙ ap₂ (λ (p q : List ℕ). p ++ q) (take-length bytes) all ∙ append-nil bytes in
+    ap₂ (λ (p q : List ℕ). take at buffer ++ (p ++ q)) is (post-is at end buffer (omega arith))
 
 pub length-put : (buffer : List ℕ) (at : ℕ) (bytes : List ℕ) → at + length bytes ≤ length buffer → length (put buffer at bytes) ≡ length buffer
 unfolding put

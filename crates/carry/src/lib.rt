@@ -1,4 +1,4 @@
-// One pair tried (SPEC 7.15): a rod with the yield limits that it has reached, carried on or refused, by value.
+// A pair tried on a rod, and its trial kept (SPEC 7.15), by value: a trial answers the rod carried on or a refusal, and moves nothing.
 use pair::Pair;
 use pair::PairRead;
 use response::Limits;
@@ -38,6 +38,15 @@ pub enum Tried {
     Refused(u64),
 }
 
+impl Carried {
+    // Keeps an accepted trial: its next state is the rod's. A refused one has nothing to keep.
+    pub fn keep(self) -> Reached
+        ensures { λ r. ⌜ r ≡ self .to ⌝ }
+    {
+        self.to
+    }
+}
+
 impl Reached {
     pub fn of(sheet: Sheet, rod: Rod) -> Reached
         requires { ⌜ SheetSound sheet × (temperatureRight (rod .temperature .0) ≡ true) ⌝ }
@@ -55,7 +64,7 @@ impl Reached {
     }
 
     // Tries a pair: 9, 11, 10 in that order, or the rod carried on.
-    pub fn over(self, sheet: Sheet, pair: Pair) -> Tried
+    pub fn trial(self, sheet: Sheet, pair: Pair) -> Tried
         requires { ⌜ Stands sheet self × PairAccepted pair ⌝ }
         ensures { λ r. ⌜ triedMeaning r ≡ withReached sheet (firstOf (stepRefusals sheet (self .rod) pair) (advanceOf sheet (self .rod) pair)) ⌝ }
     {
@@ -87,13 +96,13 @@ impl Reached {
     }
 
     // Tries the pair in some bytes: 8, and then as above.
-    pub fn over_bytes(self, sheet: Sheet, bytes: &[u8]) -> Tried
+    pub fn trial_bytes(self, sheet: Sheet, bytes: &[u8]) -> Tried
         requires { ⌜ Stands sheet self ⌝ }
         ensures { λ r. ⌜ triedMeaning r ≡ withReached sheet (pairAnswer sheet (self .rod) (now (bytes .entry))) ⌝ }
     {
         let PairRead::Accepted(pair) = pair::read(bytes) else {
             return Tried::Refused(8);
         };
-        self.over(sheet, pair)
+        self.trial(sheet, pair)
     }
 }

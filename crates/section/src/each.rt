@@ -61,10 +61,10 @@ fn tried(movement: Movement, member: Member) -> MemberTried
         return MemberTried::Refused(8);
     }
     let reached = judged.reached;
-    match reached.over(sheet, pair) {
+    match reached.trial(sheet, pair) {
         Tried::Accepted(carried) => {
-            let to = carried.to;
-            let rod = to.rod;
+            let kept = carried.keep();
+            let rod = kept.rod;
             MemberTried::Accepted(rod)
         }
         Tried::Refused(number) => MemberTried::Refused(number),

@@ -1,3 +1,4 @@
 pub mod PieceLaws
 pub mod WalkLaws
 pub mod CallLaws
+pub mod Numbers

@@ -8,6 +8,7 @@ use Rattle.pair.specs.Pairs.{pairInRange}
 use Rattle.state.specs.States.{stateOf}
 use Rattle.rod.specs.declared.step.Advance.{Advance}
 use Rattle.rod.specs.Steps.{advanceOf, stepRefusals}
+use Rattle.carry.specs.declared.Reached.{Reached}
 use Rattle.carry.specs.Reaching.{triedMeaning, withReached}
 use Rattle.carry.proofs.ReachedLaws.{tried-accepted, tried-refused}
 use Rattle.judge.specs.Standing.{Ready, holderRefusals}
@@ -54,15 +55,15 @@ returns-2 c =
 pair-right : (c : tie.Else2) → pairInRange (c .before .before .pair-at .result) ≡ true
 pair-right c = sym (c .before .in-range .ensures) ∙ not-false _ (c .if2 .left)
 
-over-requires : tie.Need-over-requires
-over-requires c κs =
+trial-requires : tie.Need-trial-requires
+trial-requires c κs =
     let passed = c .before .before .before .before in
     (passed .before .judge-state .ensures .1 (passed .if1 .left), pair-right (c .before))
 
 -- what trying the pair answers is the member's answer
-answered : (c : tie.After-over) → let passed = c .before .before .before .before .before in
+answered : (c : tie.After-trial) → let passed = c .before .before .before .before .before in
     let a = passed .before .before .before .before .before .before .args in
-    triedMeaning (c .over .result) ≡ withReached (a .movement .sheet) (memberAnswer (a .movement .sheet) (a .movement .change) (a .member))
+    triedMeaning (c .trial .result) ≡ withReached (a .movement .sheet) (memberAnswer (a .movement .sheet) (a .movement .change) (a .member))
 answered c =
     let tested = c .before .before in
     let passed = tested .before .before .before in
@@ -71,11 +72,11 @@ answered c =
     let h = a .movement .sheet in
     let is = tested .before .before .pair-at .ensures in
     let right = ap pairInRange (sym is) ∙ pair-right tested in
-    c .over .ensures
+    c .trial .ensures
     ∙ ap (withReached h) ((λ i. firstOf (stepRefusals h (sym (same-rod passed) i) (is i)) (advanceOf h (sym (same-rod passed) i) (is i)))
     ∙ sym (step-decides h (a .movement .change) (a .member) (ready start) (state-passed passed) right))
 
-abbrev answer : tie.After-over → Answer Advance
+abbrev answer : tie.After-trial → Answer Advance
 answer c =
     let a = c .before .before .before .before .before .before .before .before .before .before .before .args in
     memberAnswer (a .movement .sheet) (a .movement .change) (a .member)
@@ -83,14 +84,15 @@ answer c =
 returns-3 : tie.Need-returns-3
 returns-3 c =
     let carried = c .before .before .before in
-    let over = carried .before .before in
-    sym (ap rodOf (tried-accepted _ (answer over) (ap triedMeaning (sym (carried .carried .given .1)) ∙ answered over) .0))
+    let trial = carried .before .before in
+    ap (λ (x : Reached). passes (x .rod)) (c .before .keep .ensures)
+    ∙ sym (ap rodOf (tried-accepted _ (answer trial) (ap triedMeaning (sym (carried .carried .given .1)) ∙ answered trial) .0))
 
 returns-4 : tie.Need-returns-4
 returns-4 c =
     let number = c .before in
-    let over = number .before .before in
-    sym (ap rodOf (tried-refused _ (answer over) (ap triedMeaning (sym (number .number .given .1)) ∙ answered over)))
+    let trial = number .before .before in
+    sym (ap rodOf (tried-refused _ (answer trial) (ap triedMeaning (sym (number .number .given .1)) ∙ answered trial)))
 
 pub tried-spec : {M : Type 1} → statement M
 tried-spec =
@@ -102,8 +104,9 @@ tried-spec =
     (λ c κs. search needs)
     (λ c κs. search needs)
     returns-2
-    over-requires
+    trial-requires
     (λ c. search needs)
+    (λ c κs. search needs)
     (λ c. search needs)
     returns-3
     returns-4)

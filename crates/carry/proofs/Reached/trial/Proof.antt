@@ -10,8 +10,8 @@ use Rattle.carry.specs.declared.Reached.{Reached}
 use Rattle.carry.specs.Reaching.{withReached}
 use Rattle.carry.proofs.ReachedLaws.{limits-stand, thermals-stand, reached-next}
 use borrow.Author.Needs.{needs}
-use Rattle.carry.proofs.Reached.over.Statement.{statement}
-use Rattle.carry.proofs.Reached.over.Tie as tie
+use Rattle.carry.proofs.Reached.trial.Statement.{statement}
+use Rattle.carry.proofs.Reached.trial.Tie as tie
 
 thermal-requires : tie.Need-thermal-requires
 thermal-requires c κs =
@@ -57,8 +57,8 @@ returns-3 c = refused-as (c .before .before) (ap stepMeaning (c .enum-told2 .giv
 returns-4 : tie.Need-returns-4
 returns-4 c = refused-as (c .before .before) (ap stepMeaning (c .enum-told3 .given .1))
 
-pub over-spec : {M : Type 1} → statement M
-over-spec =
+pub trial-spec : {M : Type 1} → statement M
+trial-spec =
     tie.close
     (tie.spec
     thermal-requires
