@@ -1,6 +1,7 @@
 use borrow.Author.Needs.{needs}
 use Rattle.tie_rod.specs.Calls.{call, single}
-use Rattle.tie_rod_c.proofs.Bounds.{reply-small, call-small, seen-as}
+use Rattle.tie_rod.proofs.Numbers.{reply-small, call-small}
+use Rattle.tie_rod_c.proofs.Bounds.{seen-as}
 use Rattle.tie_rod_c.proofs.tie_rod_pair.Statement.{statement}
 use Rattle.tie_rod_c.proofs.tie_rod_pair.Tie as tie
 
