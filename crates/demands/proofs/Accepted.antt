@@ -1,21 +1,20 @@
 -- The pairs that a call accepted (SPEC 11.3, 11.6), from a sheet and a state that pass 1 to 6 and 13: the first j of them are a history, a
 -- run of them hands its last state back, and the call wrote their rows.
-use Prim.Native.Nat.{ℕ, suc, _+_, _*_, _/_, _%_, _≤_, _<_}
+use Prim.Native.Nat.{ℕ, _+_, _*_, _/_, _%_, _≤_}
 use mathlib.Core.Path.{_≡_, refl, sym, ap, subst, _∙_}
-use mathlib.Core.Bool.{Bool, true, false, not, _||_, cond}
-use mathlib.Core.List.{List, [], _∷_, _++_, map, append-assoc}
+use mathlib.Core.Bool.{Bool, true, false, cond}
+use mathlib.Core.List.{List, [], _++_, map, append-assoc}
 use mathlib.Core.Logic.{_⊎_, inl, inr}
 use native.Mathlib.Nat.{mul-div-right, mul-div-le, mul-mod-right}
 use native.Mathlib.Omega.{arith}
 use borrow.Author.Tests.{eq-eqb, le-ltb}
-use lib.Dec.{eqb, ltb}
+use lib.Dec.{eqb}
 use lib.ListN.{length, take, drop, replicate, length-replicate, take-append-drop}
 use lib.Seq.{length-take-le}
 use Rattle.refusals.specs.Table.{refused, passes, firstOf, NoneApplies, Given}
-use Rattle.refusals.proofs.FirstLaws.{goes-on, none-passes, passes-none-applies, none-split, given-refused, decides, answer-number}
+use Rattle.refusals.proofs.FirstLaws.{goes-on, none-passes, passes-none-applies, none-split, decides}
 use Rattle.ranges.specs.Ranges.{mostPairs}
 use Rattle.pair.specs.Pairs.{pairLength, listRefusals}
-use Rattle.row.specs.declared.Row.{Row}
 use Rattle.row.specs.Rows.{rowOf, rowLength}
 use Rattle.sheet.specs.declared.Sheet.{Sheet}
 use Rattle.sheet.specs.Sheets.{sheetOf, sheetRefusals}
@@ -30,7 +29,7 @@ use Rattle.carry.specs.Walk.{lastRod, rowsOf, rowsBytes, History}
 use Rattle.carry.proofs.Histories.{rows-append, bytes-append, history-prefix}
 use Rattle.judge.specs.Standing.{readyOf, standingRefusals}
 use Rattle.judge.proofs.JudgeLaws.{standing-accepted}
-use Rattle.tie_rod.specs.Calls.{Kind, single, run, Call, call, pieces, countIn, pairsIn, bufferRefusals, lengthRefusals, callRefusals, Left, handed, stopped, callLeaves}
+use Rattle.tie_rod.specs.Calls.{run, Call, call, pieces, countIn, pairsIn, bufferRefusals, lengthRefusals, callRefusals, Left, handed, callLeaves}
 use Rattle.tie_rod.proofs.PieceLaws.{length-pieces, pieces-within}
 use Rattle.tie_rod.proofs.CallLaws.{lengths-pass}
 use Rattle.demands.specs.Lists.{stateAfter, acceptedIn, stateIn}

@@ -2,8 +2,8 @@
 -- as the stage of its refusal says. A table either gives a number or none of its lines applies; pairs either all pass or one is the first
 -- that doesn't.
 use Prim.Native.Nat.{ℕ, suc, _+_, _-_, _*_, _≤_, _<_}
-use mathlib.Core.Path.{_≡_, refl, sym, ap, ap₂, subst, _∙_}
-use mathlib.Core.Bool.{true, false}
+use mathlib.Core.Path.{_≡_, refl, sym, ap, subst, _∙_}
+use mathlib.Core.Bool.{false}
 use mathlib.Core.List.{List, [], _∷_, _++_}
 use mathlib.Core.Logic.{_⊎_, inl, inr, _↔_}
 use native.Mathlib.Omega.{arith}
@@ -11,9 +11,9 @@ use borrow.Author.Tests.{ne-eqb}
 use lib.Dec.{eqb}
 use lib.ListN.{length, getD, drop, length-append}
 use lib.Seq.{take-at}
-use Rattle.refusals.specs.Table.{Refusal, Answer, passes, refused, firstOf, NoneApplies, Given, numbersOf}
+use Rattle.refusals.specs.Table.{Answer, passes, refused, firstOf, NoneApplies, Given, numbersOf}
 use Rattle.refusals.proofs.FirstLaws.{answer-number, none-passes, none-split, given-refused, decides, first-follows}
-use Rattle.pair.specs.Pairs.{pairOf, pairLength, pairRefusals, listRefusals}
+use Rattle.pair.specs.Pairs.{pairLength, pairRefusals, listRefusals}
 use Rattle.row.specs.Rows.{rowLength}
 use Rattle.sheet.specs.declared.Sheet.{Sheet}
 use Rattle.sheet.specs.Sheets.{sheetOf, sheetRefusals, sheetFieldRefusals}
@@ -22,7 +22,7 @@ use Rattle.rod.specs.declared.step.Advance.{Advance}
 use Rattle.state.specs.States.{stateOf, stateBytes, stateLength, stateRefusals, zeroState}
 use Rattle.state.specs.States as states
 use Rattle.rod.specs.Against.{againstRefusals}
-use Rattle.rod.specs.Steps.{stepRefusals, advanceOf}
+use Rattle.rod.specs.Steps.{stepRefusals}
 use Rattle.rod.specs.Forecast.{forecastOf}
 use Rattle.rod.specs.Unused.{unusedOf}
 use Rattle.state.proofs.RoundTrip.{bytes-again}
@@ -31,15 +31,17 @@ use Rattle.carry.proofs.PairAnswers.{pair-number, answer-given, given-answer}
 use Rattle.carry.proofs.Histories.{history-long, history-same, bytes-long}
 use Rattle.carry.proofs.Walks.{walk-all, walk-until, AllPass, OneFails, ends}
 use Rattle.judge.specs.Standing.{Ready, readyOf, standingRefusals}
-use Rattle.tie_rod.specs.Calls.{Kind, single, run, Call, pieces, pieceAt, countIn, pairsIn, bufferRefusals, lengthRefusals, callRefusals, Left, left, handed, over, replyOf, placeOf, partOf, stopped, carriedOn, leftBy, callLeaves, tangentTold, forecastAnswer, unusedAnswer, unusedLeft}
+use Rattle.tie_rod.specs.Calls.{Kind, single, run, Call, pieces, pieceAt, countIn, pairsIn, bufferRefusals, lengthRefusals, callRefusals, Left, left, handed, over, replyOf, partOf, stopped, leftBy, callLeaves, tangentTold, forecastAnswer, unusedAnswer, unusedLeft}
 use Rattle.tie_rod.proofs.PieceLaws.{length-pieces, pieces-around}
+use Rattle.tie_rod.proofs.Numbers.{Refuses, standing-numbers, call-numbers}
 use Rattle.tie_rod.proofs.CallLaws.{lengths-pass, handed-whole, never-handed, standing-stops, call-stops, call-walked}
 use Rattle.section.specs.declared.Member.{Member}
 use Rattle.section.specs.declared.Change.{Change}
 use Rattle.demands.specs.Lists.{acceptedBy, acceptedIn}
 use Rattle.demands.specs.Sections.{SectionAnswered}
-use Rattle.demands.specs.Demands.{ByCall, Accepts, ByPair, ByNone, Reason, Untouched, Written, CallAnswered, Answered}
+use Rattle.demands.specs.Demands.{Accepts, Reason, Untouched, Written, CallAnswered, Answered}
 use Rattle.demands.proofs.Splits.{split-front, split-next}
+use Rattle.demands.proofs.TrialAnswers.{trial-answered, keeping-answered, anything-offered}
 
 module _ (sheet state : List ℕ) (c : Call) where
   abbrev h : Sheet
@@ -68,21 +70,15 @@ module _ (sheet state : List ℕ) (c : Call) where
   abbrev Some : ℕ → Type 0
   Some n = n ≡ 0 → ⊥
 
-  standing-number : {n : ℕ} → Given (standingRefusals sheet state) n → Some n
-  unfolding standingRefusals sheetRefusals sheetFieldRefusals stateRefusals states.stateFieldRefusals againstRefusals
-  standing-number g =
-      answer-number Some (standingRefusals sheet state) ready
-      ((λ z. omega (arith, z)), ((λ z. omega (arith, z)), ((λ z. omega (arith, z)), ((λ z. omega (arith, z)), ((λ z. omega (arith, z)), ((λ z. omega (arith, z)), ((λ z. omega (arith, z)), tt)))))))
-      (given-refused (standingRefusals sheet state) ready g)
+  pub standing-number : {n : ℕ} → Given (standingRefusals sheet state) n → Some n
+  standing-number g z =
+      let few = answer-number Refuses (standingRefusals sheet state) ready (standing-numbers sheet state) (given-refused (standingRefusals sheet state) ready g) in
+      omega (arith, few .least, z)
 
   pub call-number : {n : ℕ} → Given (callRefusals c) n → Some n
-  unfolding lengthRefusals listRefusals bufferRefusals
-  call-number g = by-kind (c .kind) (given-refused (callRefusals c) ready g)
-    where
-      by-kind : (k : Kind) {n : ℕ} → let table = lengthRefusals k (length (c .pairs)) (length (c .rows)) (length (c .next)) in
-          firstOf table ready ≡ refused n → Some n
-      by-kind single e = answer-number Some (lengthRefusals single (length (c .pairs)) (length (c .rows)) (length (c .next))) ready ((λ z. omega (arith, z)), ((λ z. omega (arith, z)), tt)) e
-      by-kind run e = answer-number Some (lengthRefusals run (length (c .pairs)) (length (c .rows)) (length (c .next))) ready ((λ z. omega (arith, z)), ((λ z. omega (arith, z)), tt)) e
+  call-number g z =
+      let numbers = call-numbers (c .kind) (length (c .pairs)) (length (c .rows)) (length (c .next)) in
+      omega (arith, answer-number Refuses (callRefusals c) ready numbers (given-refused (callRefusals c) ready g) .least, z)
 
   -- and one whose pairs were walked.
   abbrev pub wentTo : Walk → Left
@@ -389,6 +385,9 @@ module _ (sheet state : List ℕ) where
   all-answered sections =
       record {
         calls = call-answered sheet state;
+        trials = trial-answered sheet state;
+        keepings = keeping-answered sheet state;
+        anything = λ trial next. anything-offered trial state next;
         sections = sections;
         forecast-order = forecast-order;
         forecast = first-follows (standingRefusals sheet state) (forecastOf (sheetOf sheet) (stateOf state));

@@ -1,6 +1,7 @@
--- Demand 2 (SPEC 9.12, 9.13): each accepted pair of a call, from any sheet and state that pass, reachable or not, leaves the rounding of
--- the only solution of its law's conditions. The pairs that a call accepts all pass, and so each of them is from a state that passes.
-use Prim.Native.Nat.{ℕ, suc, _+_, _<_}
+-- Demand 2 (SPEC 9.12, 9.13, 16.9): each accepted pair of a call or a trial, from any sheet and state that pass, reachable or not, leaves
+-- the rounding of the only solution of its law's conditions. The pairs that a call accepts all pass, and so each of them is from a state
+-- that passes.
+use Prim.Native.Nat.{ℕ, _+_, _<_}
 use mathlib.Core.Path.{_≡_, refl, sym, ap, subst, _∙_}
 use mathlib.Core.Bool.{Bool, true, false, cond}
 use mathlib.Core.List.{List, [], _∷_, _++_, map}
@@ -33,10 +34,13 @@ use Rattle.carry.proofs.Histories.{last-append, rows-append, history-same}
 use Rattle.judge.specs.Standing.{standingRefusals}
 use Rattle.tie_rod.specs.Calls.{Call, pieces, pieceAt, callLeaves}
 use Rattle.tie_rod.proofs.PieceLaws.{pieces-then}
-use Rattle.demands.specs.Lists.{acceptedIn, stateIn}
-use Rattle.demands.specs.Demands.{PairSolved, SolvedAt, EachSolved, RangeDecided, SolvedFrom}
+use Rattle.trial.specs.Trials.{Trial, asSingle, trialLeaves, keepLeaves}
+use Rattle.demands.specs.Lists.{acceptedIn, stateIn, rowIn, triedIn}
+use Rattle.demands.specs.Demands.{PairSolved, SolvedAt, EachSolved, TrialSolved, RangeDecided, SolvedFrom}
 use Rattle.demands.proofs.Splits.{split-next, map-append, history-passes, last-pair}
 use Rattle.demands.proofs.Accepted.{rod-passes, upto, starts-rod, ends-rod, standing-at}
+use Rattle.demands.proofs.TrialAnswers.{kept-own}
+use Rattle.demands.proofs.Singles.{single-accepted, single-pair, single-after}
 
 -- ---- One pair
 
@@ -131,6 +135,26 @@ module _ (sheet state : List ℕ) (standing : NoneApplies (standingRefusals shee
         ends = ends-rod sheet state standing c;
       }
 
+-- ---- A trial, and its keeping
+
+module _ (sheet state : List ℕ) (standing : NoneApplies (standingRefusals sheet state)) (sound : SheetSound (sheetOf sheet)) (t : Trial) where
+  -- An accepted trial is a single pair, whose first pair is its only one.
+  pub trial-solved : triedIn sheet state t .reply .number ≡ 0 → TrialSolved sheet sound state t (triedIn sheet state t .next)
+  unfolding trialLeaves
+  trial-solved none =
+      let solves = each-solved sheet state standing (asSingle t) sound in
+      let one = single-accepted sheet state (t .pair) (t .row) (t .next) none in
+      let next : stateOf (stateIn sheet state (asSingle t) 1) ≡ stateOf (callLeaves sheet state (asSingle t) .next) =
+      ap (λ (n : ℕ). stateOf (stateIn sheet state (asSingle t) n)) (sym one) ∙ solves .ends ∙ ap stateOf (single-after sheet state (t .pair) (t .row) (t .next) none) in
+      subst (λ (x : Rod × List ℕ × Rod). PairSolved (sheetOf sheet) sound (x .0) (pairOf (x .1)) (x .2) (rowIn (callLeaves sheet state (asSingle t))))
+      (λ i. (solves .starts i, single-pair sheet state (t .pair) (t .row) (t .next) none i, next i)) (solves .each 0 (omega (arith, one)))
+
+  keeping-solved : (offered next : List ℕ) → keepLeaves (trialLeaves sheet state t .trial) offered next .number ≡ 0
+      → TrialSolved sheet sound state t (keepLeaves (trialLeaves sheet state t .trial) offered next .next)
+  keeping-solved offered next e =
+      let keeps = kept-own sheet state t offered next e in
+      subst (TrialSolved sheet sound state t) (sym (keeps .is)) (trial-solved (keeps .none))
+
 -- ---- The theorem
 
 pub all-solved : (sheet state : List ℕ) → NoneApplies (standingRefusals sheet state)
@@ -141,6 +165,8 @@ all-solved sheet state standing =
       sound,
       record {
         calls = λ c. each-solved sheet state standing c sound;
+        trials = trial-solved sheet state standing sound;
+        keepings = keeping-solved sheet state standing sound;
         range = λ pair. range-decided sound (stateOf state) pair (passes .accepted);
         unused = unused-plastic (sheetOf sheet);
       },

@@ -1,17 +1,21 @@
--- Demand 3 (SPEC 11.8 to 11.11): at every stop of every list of calls the stored rod lies within k grains of the bar without rounding. The
--- calls before a stop, and the first pairs of the next, are one history from the unused rod; the bound is that of histories (11.12).
-use Prim.Native.Nat.{ℕ, _≤_}
+-- Demand 3 (SPEC 11.8 to 11.11, 11.15, 11.16): at every stop of every list of calls, trials and keepings the stored rod lies within k
+-- grains of the bar without rounding. What was carried on or kept before a stop, and the first pairs of the next call, are one history from
+-- the unused rod; the bound is that of histories (11.12).
+use Prim.Native.Nat.{ℕ, _+_, _≤_}
 use mathlib.Core.Path.{_≡_, refl, sym, ap, subst, _∙_}
-use mathlib.Core.Bool.{true}
+use mathlib.Core.Bool.{Bool, true, false, cond}
 use mathlib.Core.List.{List, [], _∷_, _++_, map}
 use mathlib.Core.Logic.{_↔_}
 use native.Mathlib.Omega.{arith}
+use borrow.Author.Tests.{eqb-true, eq-eqb}
+use lib.Dec.{eqb}
+use lib.ListN.{length, length-append}
 use Rattle.refusals.specs.Table.{firstOf, passes, NoneApplies}
 use Rattle.refusals.proofs.FirstLaws.{goes-on}
+use Rattle.bits.specs.Field.{flag}
 use Rattle.pair.specs.declared.Pair.{Pair}
 use Rattle.pair.specs.Pairs.{pairOf, pairLength}
 use Rattle.row.specs.declared.Row.{Row}
-use Rattle.row.specs.Rows.{rowOf, rowLength}
 use Rattle.sheet.specs.declared.Sheet.{Sheet}
 use Rattle.sheet.specs.Sheets.{sheetOf, sheetRefusals, sheetFieldRefusals}
 use Rattle.sheet.specs.Sound.{SheetSound}
@@ -23,16 +27,43 @@ use Rattle.rod.specs.Unused.{unusedOf}
 use Rattle.state.specs.Passing.{StatePasses}
 use Rattle.state.proofs.Passing.{unused-state-passes}
 use Rattle.state.proofs.RoundTrip.{rod-back}
-use Rattle.carry.specs.Walk.{lastRod, rowsOf, History}
+use Rattle.carry.specs.Walk.{lastRod, rowsOf, yieldedRows, History}
 use Rattle.carry.proofs.Histories.{last-append, rows-append, history-append}
 use Rattle.accuracy.specs.Within.{PassesLimit, AtStop}
 use Rattle.accuracy.proofs.Bound.{history-within}
 use Rattle.judge.specs.Standing.{standingRefusals}
-use Rattle.tie_rod.specs.Calls.{Call, pieces, pieceAt, callLeaves, unusedAnswer}
-use Rattle.demands.specs.Lists.{Situation, begins, acceptedIn, stateAfter, stateIn, stopIn, afterCall, Holds, AtCall, AtEveryStop}
+use Rattle.tie_rod.specs.Calls.{Call, pieces, unusedAnswer}
+use Rattle.trial.specs.Trials.{Trial, asSingle, trialLeaves}
+use Rattle.demands.specs.Lists.{Keeping, Operation, carries, tries, keeps, Situation, begins, acceptedIn, stateAfter, stateIn, stopIn, afterCall}
+use Rattle.demands.specs.Lists.{rowIn, triedIn, keptIn, withTrial, trialStop, afterKeeping, after, afterAll, Holds, AtCall, AtTrial, AtKeeping, AtOperation, AtEveryStop}
+use Rattle.demands.specs.Demands.{PairSolved}
 use Rattle.demands.proofs.Splits.{map-append, history-passes}
 use Rattle.demands.proofs.Accepted.{standing-passes, upto, starts-before, ends-after}
-use Rattle.demands.proofs.Demand2.{each-solved}
+use Rattle.demands.proofs.TrialAnswers.{kept-own}
+use Rattle.demands.proofs.Singles.{single-leads}
+use Rattle.demands.proofs.Demand2.{each-solved, trial-solved}
+
+-- One row more counts by its own bit.
+yielded-append : (rows : List Row) (row : Row) → yieldedRows (rows ++ (row ∷ [])) ≡ yieldedRows rows + flag (row .yielded)
+unfolding yieldedRows
+yielded-append [] row = omega arith
+yielded-append (x ∷ rows) row = omega (arith, yielded-append rows row)
+
+-- No operation takes a pair out of a history.
+module _ (sheet : List ℕ) where
+  grows-by : (s : Situation) (o : Operation) → length (s .history) ≤ length (after sheet s o .history)
+  grows-by s (carries c) = omega (arith, length-append (s .history) (map pairOf (pieces pairLength (acceptedIn sheet (s .state) c) (c .pairs))))
+  grows-by s (tries t) = omega arith
+  grows-by s (keeps k) = by-number (eqb (keptIn sheet (s .state) k .number) 0)
+    where
+      by-number : (b : Bool) → length (s .history) ≤ length (cond b (withTrial sheet s (k .start) (k .trial) (keptIn sheet (s .state) k .next)) s .history)
+      by-number true = omega (arith, length-append (s .history) (pairOf (k .trial .pair) ∷ []))
+      by-number false = omega arith
+
+  history-grows : (s : Situation) (list : List Operation) → length (s .history) ≤ length (afterAll sheet s list .history)
+  unfolding afterAll
+  history-grows s [] = omega arith
+  history-grows s (o ∷ list) = omega (arith, grows-by s o, history-grows (after sheet s o) list)
 
 module _ (sheet : List ℕ) (passed : firstOf (sheetRefusals sheet) (sheetOf sheet) ≡ passes (sheetOf sheet)) (sound : SheetSound (sheetOf sheet)) where
   abbrev h : Sheet
@@ -99,6 +130,10 @@ module _ (sheet : List ℕ) (passed : firstOf (sheetRefusals sheet) (sheetOf she
           let y = stop-reached (acceptedIn sheet (s .state) c) (omega arith) in
           record { pairs = y .pairs; advances = y .advances; history = y .history; pairs-are = y .pairs-are; rows-are = y .rows-are; state-is = sym ends ∙ y .state-is }
 
+  -- A row is marked exactly where its pair's trial passes a limit.
+  marked-by : {r next : Rod} {p : Pair} {row : Row} → PairSolved h sound r p next row → (row .yielded ≡ true) ↔ PassesLimit h sound r p
+  marked-by {r} {next} {p} solves = subst (λ (row : Row). (row .yielded ≡ true) ↔ PassesLimit h sound r p) (sym (solves .row-is)) (solves .solved .passes)
+
   at-call : {s : Situation} (x : Reached s) (c : Call) → AtCall sheet sound s c
   at-call {s} x c =
       record {
@@ -106,15 +141,101 @@ module _ (sheet : List ℕ) (passed : firstOf (sheetRefusals sheet) (sheetOf she
         stops = λ j few. holds (stop-reached x c j few);
         starts = starts-before sheet (s .state) (standing x) c (own x);
         ends = ends x c;
-        marked = λ j few.
-            let solved = each-solved sheet (s .state) (standing x) c sound .each j few in
-            let limit = PassesLimit h sound (stateOf (stateIn sheet (s .state) c j)) (pairOf (pieceAt pairLength j (c .pairs))) in
-            subst (λ (row : Row). (row .yielded ≡ true) ↔ limit) (sym (solved .row-is)) (solved .solved .passes);
+        marked = λ j few. marked-by (each-solved sheet (s .state) (standing x) c sound .each j few);
       }
 
-  at-every-stop : (calls : List Call) (s : Situation) → Reached s → AtEveryStop sheet sound s calls
+  -- ---- Trials and keepings
+
+  module _ {s : Situation} (x : Reached s) where
+    -- An accepted trial comes to where the single pair would lead.
+    trial-reached : (t : Trial) → triedIn sheet (s .state) t .reply .number ≡ 0 → Reached (trialStop sheet s t)
+    unfolding trialLeaves
+    trial-reached t none = subst Reached (single-leads sheet s (t .pair) (t .row) (t .next) none) (after-reached x (asSingle t))
+
+    at-trial : (t : Trial) → AtTrial sheet sound s t
+    at-trial t =
+        record {
+          standing = standing x;
+          stop = holds x;
+          tried = λ none. holds (trial-reached t none);
+          counted = yielded-append (s .rows) (rowIn (triedIn sheet (s .state) t));
+          marked = λ none. marked-by (trial-solved sheet (s .state) (standing x) sound t none);
+        }
+
+    module _ (k : Keeping) where
+      -- A keeping with number 0 comes to what its trial answered, which was given the list's state.
+      kept-stop : (e : keptIn sheet (s .state) k .number ≡ 0)
+          → withTrial sheet s (k .start) (k .trial) (keptIn sheet (s .state) k .next) ≡ trialStop sheet s (k .trial)
+      kept-stop e =
+          let keeps = kept-own sheet (k .start) (k .trial) (s .state) (k .next) e in
+          ap (withTrial sheet s (k .start) (k .trial)) (keeps .is)
+          ∙ ap (λ (l : List ℕ). withTrial sheet s l (k .trial) (triedIn sheet l (k .trial) .next)) (sym (keeps .own))
+
+      from : keptIn sheet (s .state) k .number ≡ 0 → k .start ≡ s .state
+      from e = sym (kept-own sheet (k .start) (k .trial) (s .state) (k .next) e .own)
+
+      accepted : keptIn sheet (s .state) k .number ≡ 0 → triedIn sheet (k .start) (k .trial) .reply .number ≡ 0
+      accepted e = kept-own sheet (k .start) (k .trial) (s .state) (k .next) e .none
+
+      here : keptIn sheet (s .state) k .number ≡ 0 → triedIn sheet (s .state) (k .trial) .reply .number ≡ 0
+      here e = subst (λ (l : List ℕ). triedIn sheet l (k .trial) .reply .number ≡ 0) (from e) (accepted e)
+
+      keeping-reached : Reached (afterKeeping sheet s k)
+      keeping-reached = by-number (eqb (keptIn sheet (s .state) k .number) 0) refl
+        where
+          by-number : (b : Bool) → eqb (keptIn sheet (s .state) k .number) 0 ≡ b
+              → Reached (cond b (withTrial sheet s (k .start) (k .trial) (keptIn sheet (s .state) k .next)) s)
+          by-number true e = let none = eqb-true _ 0 e in subst Reached (sym (kept-stop none)) (trial-reached (k .trial) (here none))
+          by-number false e = x
+
+  after-one : {s : Situation} → Reached s → (o : Operation) → Reached (after sheet s o)
+  after-one x (carries c) = after-reached x c
+  after-one x (tries t) = x
+  after-one x (keeps k) = keeping-reached x k
+
+  after-some : (list : List Operation) {s : Situation} → Reached s → Reached (afterAll sheet s list)
+  unfolding afterAll
+  after-some [] x = x
+  after-some (o ∷ list) x = after-some list (after-one x o)
+
+  -- The state's n is the length of the history, and nothing makes a history shorter.
+  counts-pairs : {s : Situation} → Reached s → stateOf (s .state) .pairs ≡ length (s .history)
+  counts-pairs x = holds x .within .n-counted
+
+  module _ {s : Situation} (x : Reached s) (k : Keeping) where
+    -- So the state that a kept trial started from doesn't come back.
+    once : keptIn sheet (s .state) k .number ≡ 0 → (between : List Operation)
+        → keptIn sheet (afterAll sheet (afterKeeping sheet s k) between .state) k .number ≡ 0 → ⊥
+    once e between again =
+        let kept = keeping-reached x k in
+        let later = after-some between kept in
+        let same : s .state ≡ afterAll sheet (afterKeeping sheet s k) between .state = sym (from x k e) ∙ from later k again in
+        let grown : length (afterKeeping sheet s k .history) ≡ length (s .history) + 1 =
+        ap (λ (b : Bool). length (cond b (withTrial sheet s (k .start) (k .trial) (keptIn sheet (s .state) k .next)) s .history)) (eq-eqb _ 0 e)
+        ∙ length-append (s .history) (pairOf (k .trial .pair) ∷ []) in
+        omega (arith, counts-pairs x, counts-pairs later, ap (λ (l : List ℕ). stateOf l .pairs) same, grown, history-grows sheet (afterKeeping sheet s k) between)
+
+    at-keeping : AtKeeping sheet sound s k
+    at-keeping =
+        record {
+          before = holds x;
+          behind = holds (keeping-reached x k);
+          from = from x k;
+          accepted = accepted x k;
+          hands = λ e. kept-own sheet (k .start) (k .trial) (s .state) (k .next) e .is;
+          marked = λ e. subst (λ (l : List ℕ). (rowIn (triedIn sheet l (k .trial)) .yielded ≡ true) ↔ PassesLimit h sound (stateOf (s .state)) (pairOf (k .trial .pair)))
+              (sym (from x k e)) (at-trial x (k .trial) .marked (here x k e));
+          once = once;
+        }
+
+  at-operation : {s : Situation} → Reached s → (o : Operation) → AtOperation sheet sound s o
+  at-operation x (carries c) = at-call x c
+  at-operation x (tries t) = at-trial x t
+  at-operation x (keeps k) = at-keeping x k
+
+  at-every-stop : (list : List Operation) (s : Situation) → Reached s → AtEveryStop sheet sound s list
   at-every-stop [] s x = holds x
-  at-every-stop (c ∷ calls) s x = (at-call x c, at-every-stop calls (afterCall sheet s c) (after-reached x c))
+  at-every-stop (o ∷ list) s x = (at-operation x o, at-every-stop list (after sheet s o) (after-one x o))
 
   -- The unused rod has led nowhere yet.
   begins-reached : Reached (begins (stateBytes (unusedOf h)))
@@ -132,10 +253,10 @@ unused-made sheet {first} e =
     let same = goes-on (sheetRefusals sheet) [] made made e in
     (goes-on (sheetRefusals sheet) [] made (sheetOf sheet) e, cc)
 
--- Demand 3: for every sheet and the unused rod made from it, whatever calls follow.
+-- Demand 3: for every sheet and the unused rod made from it, whatever calls, trials and keepings follow.
 pub all-within : (sheet first : List ℕ) → unusedAnswer sheet ≡ passes first
-    → (sound : SheetSound (sheetOf sheet)) × ((calls : List Call) → AtEveryStop sheet sound (begins first) calls)
+    → (sound : SheetSound (sheetOf sheet)) × ((list : List Operation) → AtEveryStop sheet sound (begins first) list)
 all-within sheet first made =
     let (passed, is) = unused-made sheet made in
     let sound = passed-sound sheet passed .1 in
-    (sound, λ calls. subst (λ (l : List ℕ). AtEveryStop sheet sound (begins l) calls) (sym is) (at-every-stop sheet passed sound calls (begins (stateBytes (unusedOf (sheetOf sheet)))) (begins-reached sheet passed sound)))
+    (sound, λ list. subst (λ (l : List ℕ). AtEveryStop sheet sound (begins l) list) (sym is) (at-every-stop sheet passed sound list (begins (stateBytes (unusedOf (sheetOf sheet)))) (begins-reached sheet passed sound)))

@@ -1,6 +1,8 @@
 pub mod Splits
+pub mod TrialAnswers
 pub mod Demand1
 pub mod Accepted
+pub mod Singles
 pub mod Demand2
 pub mod Demand3
 pub mod LoneRods

@@ -2,14 +2,14 @@
 -- both get the same number.
 use Prim.Native.Nat.{ℕ, _+_, _/_}
 use mathlib.Core.Path.{_≡_, refl, sym, ap, subst, _∙_}
-use mathlib.Core.List.{List, [], _∷_, _++_, map}
+use mathlib.Core.List.{List, [], _∷_, _++_}
 use native.Mathlib.Omega.{arith}
-use lib.ListN.{length, take, replicate, length-replicate}
+use lib.ListN.{replicate, length-replicate}
 use lib.Seq.{take-all}
 use Rattle.refusals.specs.Table.{Answer, passes, refused, firstOf, NoneApplies}
 use Rattle.refusals.proofs.FirstLaws.{goes-on, passes-anyhow, refused-anyhow, passes-none-applies, same-refused}
 use Rattle.pair.specs.declared.Pair.{Pair}
-use Rattle.pair.specs.Pairs.{pairOf, pairLength, pairBytes}
+use Rattle.pair.specs.Pairs.{pairLength, pairBytes}
 use Rattle.pair.proofs.PairLaws.{length-pair, pair-back}
 use Rattle.row.specs.Rows.{rowLength}
 use Rattle.sheet.specs.declared.Sheet.{Sheet}
@@ -26,21 +26,17 @@ use Rattle.section.specs.declared.Member.{Member}
 use Rattle.section.specs.declared.Change.{Change}
 use Rattle.section.specs.Sections.{memberPair, memberAnswer}
 use Rattle.section.proofs.MemberLaws.{member-passed, state-stops, step-decides}
-use Rattle.tie_rod.specs.Calls.{single, Call, pieces, pieceAt, countIn, pairsIn, lengthRefusals, bufferRefusals, callRefusals, Left, handed, callLeaves}
+use Rattle.tie_rod.specs.Calls.{single, Call, pieces, pieceAt, countIn, pairsIn, lengthRefusals, bufferRefusals, callRefusals, Left, callLeaves}
 use Rattle.tie_rod.proofs.CallLaws.{handed-whole, standing-stops}
-use Rattle.demands.specs.Lists.{Situation, acceptedBy, acceptedIn, stateAfter, afterCall}
+use Rattle.demands.specs.Lists.{Situation, afterCall}
 use Rattle.demands.specs.Sections.{loneCall}
 use Rattle.demands.proofs.Demand1.{wentTo, when-all, when-until}
+use Rattle.demands.proofs.Singles.{lone-pieces, single-leads}
 
--- A call with the bytes of one pair, room for one row and a state meets neither 7 nor 12,
+-- A call with the bytes of one pair, room for one row and a state meets neither 7 nor 12.
 lone-lengths : (pairs rows next : ℕ) → pairs ≡ pairLength → rows ≡ rowLength → next ≡ stateLength → NoneApplies (lengthRefusals single pairs rows next)
 unfolding lengthRefusals bufferRefusals
 lone-lengths pairs rows next p q n = rw (p, q, n) (refl, (refl, tt))
-
--- and walks that pair alone.
-lone-pieces : (bytes : List ℕ) → length bytes ≡ pairLength → pieces pairLength 1 bytes ≡ bytes ∷ []
-unfolding pieces
-lone-pieces bytes long = ap (λ (l : List ℕ). l ∷ []) (take-all pairLength bytes (omega (arith, long)))
 
 module _ (sheet : List ℕ) (passed : firstOf (sheetRefusals sheet) (sheetOf sheet) ≡ passes (sheetOf sheet)) (sound : SheetSound (sheetOf sheet)) where
   abbrev h : Sheet
@@ -96,17 +92,11 @@ module _ (sheet : List ℕ) (passed : firstOf (sheetRefusals sheet) (sheetOf she
       -- and adds its own pair to a history.
       pub lone-after : (s : Situation) → s .state ≡ m .state
           → (afterCall sheet s lone .state ≡ stateBytes (a .rod)) × (afterCall sheet s lone .history ≡ s .history ++ (pair ∷ []))
-      unfolding stateAfter acceptedIn pieces
       lone-after s is =
           let from = ap (λ (l : List ℕ). callLeaves sheet l lone) is in
-          let next : afterCall sheet s lone .state ≡ stateBytes (a .rod) = ap (λ (l : Left). l .next) from ∙ lone-next in
-          let number = ap (λ (l : Left). l .reply .number) from ∙ lone-number in
-          let all : acceptedIn sheet (s .state) lone ≡ 1 =
-          ap (λ (n : ℕ). acceptedBy n (callLeaves sheet (s .state) lone .reply .place) (countIn bytes)) number ∙ count in
+          let leads = single-leads sheet s bytes (replicate rowLength 0) (replicate stateLength 0) (ap (λ (l : Left). l .reply .number) from ∙ lone-number) in
           let back = sym (pair-read bytes (pair-back pair (member-passed h c m sound e .in-range)) .0) in
-          let added : map pairOf (pieces pairLength (acceptedIn sheet (s .state) lone) bytes) ≡ pair ∷ [] =
-          ap (λ (n : ℕ). map pairOf (pieces pairLength n bytes)) all ∙ ap (λ (l : List (List ℕ)). map pairOf l) (lone-pieces bytes (length-pair pair)) ∙ ap (λ (p : Pair). p ∷ []) back in
-          (next, ap (λ (l : List Pair). s .history ++ l) added)
+          (ap (λ (x : Situation). x .state) leads ∙ ap (λ (l : Left). l .next) from ∙ lone-next, ap (λ (x : Situation). x .history) leads ∙ ap (λ (p : Pair). s .history ++ (p ∷ [])) back)
 
     -- A member that is refused with a pair in its ranges: the lone rod gets the same number.
     pub lone-refused : {n : ℕ} → memberAnswer h c m ≡ refused n → PairAccepted pair → callLeaves sheet (m .state) lone .reply .number ≡ n

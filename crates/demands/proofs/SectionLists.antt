@@ -8,7 +8,6 @@ use borrow.Author.Tests.{eqb-true, eqb-false}
 use lib.Dec.{eqb}
 use lib.IntN.{ℤ}
 use Rattle.refusals.specs.Table.{passes, firstOf}
-use Rattle.pair.specs.declared.Pair.{Pair}
 use Rattle.sheet.specs.Sheets.{sheetOf, sheetRefusals}
 use Rattle.sheet.specs.Sound.{SheetSound}
 use Rattle.rod.specs.declared.step.Advance.{Advance}
@@ -17,7 +16,7 @@ use Rattle.section.specs.declared.Change.{Change}
 use Rattle.section.specs.Sections.{memberPair, memberAnswer, withState, Move, SectionLeft, sectionLeaves}
 use Rattle.section.proofs.MovesLaws.{Pass, movesOf}
 use Rattle.tie_rod.specs.Calls.{Call, unusedAnswer}
-use Rattle.demands.specs.Lists.{Situation, begins, afterCall, afterCalls, Holds, AtEveryStop}
+use Rattle.demands.specs.Lists.{Operation, carries, Situation, begins, afterCall, after, afterAll, Holds, AtEveryStop}
 use Rattle.demands.specs.Sections.{Each, EachAfter, loneCall, loneCalls, SectionSituation, sectionBegins, afterSection, LikeLone, AtEverySection, WithinFrom}
 use Rattle.demands.proofs.Splits.{map-append}
 use Rattle.demands.proofs.Demand3.{all-within, unused-made}
@@ -25,26 +24,26 @@ use Rattle.demands.proofs.LoneRods.{lone-after}
 use Rattle.demands.proofs.SectionAnswers.{kept-beside, without-number}
 
 module _ (sheet : List ℕ) where
-  -- One call more.
-  after-append : (s : Situation) (calls : List Call) (c : Call) → afterCalls sheet s (calls ++ (c ∷ [])) ≡ afterCall sheet (afterCalls sheet s calls) c
-  unfolding afterCalls
-  after-append s [] c = refl
-  after-append s (x ∷ calls) c = after-append (afterCall sheet s x) calls c
+  -- One operation more.
+  after-append : (s : Situation) (list : List Operation) (o : Operation) → afterAll sheet s (list ++ (o ∷ [])) ≡ after sheet (afterAll sheet s list) o
+  unfolding afterAll
+  after-append s [] o = refl
+  after-append s (x ∷ list) o = after-append (after sheet s x) list o
 
   module _ (sound : SheetSound (sheetOf sheet)) where
     -- Demand 3 at the end of a list.
-    end-holds : (s : Situation) (calls : List Call) → AtEveryStop sheet sound s calls → Holds sheet sound (afterCalls sheet s calls)
-    unfolding afterCalls
+    end-holds : (s : Situation) (list : List Operation) → AtEveryStop sheet sound s list → Holds sheet sound (afterAll sheet s list)
+    unfolding afterAll
     end-holds s [] holds = holds
-    end-holds s (c ∷ calls) (here, rest) = end-holds (afterCall sheet s c) calls rest
+    end-holds s (o ∷ list) (here, rest) = end-holds (after sheet s o) list rest
 
-    module _ (unused : List ℕ) (within : (calls : List Call) → AtEveryStop sheet sound (begins unused) calls)
+    module _ (unused : List ℕ) (within : (list : List Operation) → AtEveryStop sheet sound (begins unused) list)
         (passed : firstOf (sheetRefusals sheet) (sheetOf sheet) ≡ passes (sheetOf sheet)) where
       abbrev Like : List Change → Member → Member → Type 0
       Like = LikeLone sheet sound unused
 
       abbrev lone : Member → List Change → Situation
-      lone m changes = afterCalls sheet (begins unused) (loneCalls m changes)
+      lone m changes = afterAll sheet (begins unused) (loneCalls m changes)
 
       -- A member that passes one call more stays like its lone rod. Only its offset decides which pair it is given.
       like-next : (changes : List Change) (c : Change) (began m : Member) {a : Advance} → memberAnswer (sheetOf sheet) c m ≡ passes a → Like changes began m
@@ -54,8 +53,8 @@ module _ (sheet : List ℕ) where
           let calls = ap (λ (x : ℤ). call-at x) (like .offset) in
           let next = lone-after sheet passed sound c m e (lone began changes) (sym (like .state)) in
           let is : lone began more ≡ afterCall sheet (lone began changes) (loneCall c m) =
-          ap (afterCalls sheet (begins unused)) (map-append (λ (x : Change). loneCall x began) changes (c ∷ []))
-          ∙ after-append (begins unused) (loneCalls began changes) (loneCall c began) ∙ ap (afterCall sheet (lone began changes)) (sym calls) in
+          ap (afterAll sheet (begins unused)) (map-append (λ (x : Change). carries (loneCall x began)) changes (c ∷ []))
+          ∙ after-append (begins unused) (loneCalls began changes) (carries (loneCall c began)) ∙ ap (afterCall sheet (lone began changes)) (sym calls) in
           let own : memberPair c m ≡ memberPair c began = ap (λ (x : ℤ). memberPair c (record { area = m .area; offset = x; state = m .state })) (like .offset) in
           record {
             area = like .area;
@@ -100,7 +99,7 @@ module _ (sheet : List ℕ) where
       at-every-section began s (c ∷ changes) likes = (likes, at-every-section began (afterSection sheet s c) changes (after-one began s c likes))
 
       begin-like : (l : List Member) → Each (λ (m : Member). m .state ≡ unused) l → EachAfter (Like []) l l
-      unfolding afterCalls
+      unfolding afterAll
       begin-like [] are = tt
       begin-like (m ∷ l) (is, are) =
           (record { area = refl; offset = refl; state = is; history = refl; holds = within []; every-stop = within [] }, begin-like l are)
@@ -112,7 +111,7 @@ within-from sheet first made =
     let passed = unused-made sheet made .0 in (
       sound,
       record {
-        calls = within;
+        lists = within;
         sections = λ members are changes. at-every-section sheet sound first within passed members (sectionBegins members) changes (begin-like sheet sound first within passed members are);
       },
     )

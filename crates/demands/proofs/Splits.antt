@@ -1,13 +1,12 @@
 -- A list split at one place, and rows read back from the bytes of a list of them (SPEC 3.17).
 use Prim.Native.Nat.{ℕ, zero, suc, _+_, _≤_}
-use mathlib.Core.Path.{_≡_, refl, sym, ap, _∙_}
+use mathlib.Core.Path.{_≡_, refl, ap, _∙_}
 use mathlib.Core.List.{List, [], _∷_, _++_, map, append-assoc}
 use native.Mathlib.Omega.{arith}
 use lib.ListN.{length, take, drop}
 use lib.Seq.{take-at, drop-at}
 use Rattle.refusals.specs.Table.{passes}
-use Rattle.row.specs.declared.Row.{Row}
-use Rattle.row.specs.Rows.{rowOf, rowBytes, rowLength, RowFits}
+use Rattle.row.specs.Rows.{rowOf, rowBytes, rowLength}
 use Rattle.row.proofs.RowLaws.{row-back}
 use Rattle.sheet.specs.declared.Sheet.{Sheet}
 use Rattle.rod.specs.declared.Rod.{Rod}

@@ -1,6 +1,7 @@
--- What demands 1 and 2 claim of calls on bytes (SPEC 9.11 to 9.13): the single pair, the run, the forecast and the unused rod, on any bytes
--- of any lengths; cited by proofs/Demands. Definitions only, over what a call leaves and never over the program; nothing is assumed. What
--- they claim of a section is SectionAnswered in Sections; demand 3, over lists, is AtEveryStop in Lists and WithinFrom in Sections.
+-- What demands 1 and 2 claim of calls on bytes (SPEC 9.11 to 9.13): the single pair, the run, the trial and its keeping, the forecast and
+-- the unused rod, on any bytes of any lengths; cited by proofs/Demands. Definitions only, over what a call leaves and never over the
+-- program; nothing is assumed. What demand 1 claims of trials, keepings and sections is in Trials and Sections; demand 3, over lists, is
+-- AtEveryStop in Lists and WithinFrom in Sections.
 use Prim.Native.Nat.{ℕ, _+_, _*_, _≤_, _<_}
 use mathlib.Core.Path.{_≡_}
 use mathlib.Core.Bool.{false}
@@ -28,9 +29,11 @@ use Rattle.rod.specs.Unused.{unusedOf}
 use Rattle.carry.specs.Walk.{pairTable, lastRod, rowsOf, rowsBytes, History}
 use Rattle.judge.specs.Standing.{standingRefusals}
 use Rattle.tie_rod.specs.Calls.{Call, pieces, pieceAt, countIn, callRefusals, Left, partOf, callLeaves, tangentTold, forecastAnswer, unusedAnswer, unusedLeft}
+use Rattle.trial.specs.Trials.{Trial, trialLeaves, keepLeaves}
 use Rattle.section.specs.declared.Member.{Member}
 use Rattle.section.specs.declared.Change.{Change}
-use Rattle.demands.specs.Lists.{stateAfter, acceptedIn, stateIn}
+use Rattle.demands.specs.Lists.{stateAfter, acceptedIn, stateIn, rowIn, triedIn}
+use Rattle.demands.specs.Trials.{TrialAnswered, KeepingAnswered, AnythingOffered}
 use Rattle.demands.specs.Sections.{SectionAnswered}
 
 -- ---- Demand 1: the conditions
@@ -114,9 +117,14 @@ pub record CallAnswered (sheet state : List ℕ) (c : Call) : Type 0 where
 
 -- ---- Demand 1 whole
 
--- SPEC 9.11: every call, section, forecast and unused rod, for any bytes as sheet and as state.
+-- SPEC 9.11: every call, trial, keeping, section, forecast and unused rod, for any bytes as sheet and as state.
 pub record Answered (sheet state : List ℕ) : Type 0 where
   pub calls : (c : Call) → CallAnswered sheet state c
+  -- SPEC 16.7: a trial, and every keeping of it, whatever state and buffer it is offered
+  pub trials : (t : Trial) → TrialAnswered sheet state t
+  pub keepings : (t : Trial) (offered next : List ℕ) → KeepingAnswered sheet state t offered next
+  -- SPEC 16.8: a keeping of any bytes at all
+  pub anything : (trial next : List ℕ) → AnythingOffered trial state next
   -- SPEC 15.8: a section, whatever its members' states
   pub sections : (c : Change) (members : List Member) → SectionAnswered sheet c members
   -- SPEC 9.8: a forecast follows the standing lines, and tells tangent 0 beside a number
@@ -172,9 +180,18 @@ pub record EachSolved (sheet : List ℕ) (sound : SheetSound (sheetOf sheet)) (s
   -- and the last one is handed back.
   pub ends : stateOf (stateIn sheet state c (acceptedIn sheet state c)) ≡ stateOf (stateAfter sheet state c)
 
+-- SPEC 16.9: the pair of a trial that started from this state, with the trial's row, and a next state: the trial's, or a keeping's.
+abbrev pub TrialSolved : (sheet : List ℕ) → SheetSound (sheetOf sheet) → (state : List ℕ) → Trial → (next : List ℕ) → Type 0
+TrialSolved sheet sound state t next =
+    PairSolved (sheetOf sheet) sound (stateOf state) (pairOf (t .pair)) (stateOf next) (rowIn (triedIn sheet state t))
+
 -- SPEC 9.12, 9.13: demand 2 whole, for a sheet and a state that pass 1 to 6 and 13.
 pub record SolvedFrom (sheet state : List ℕ) (sound : SheetSound (sheetOf sheet)) : Type 0 where
   pub calls : (c : Call) → EachSolved sheet sound state c
+  -- SPEC 16.9: an accepted trial, and what a keeping of it hands on
+  pub trials : (t : Trial) → triedIn sheet state t .reply .number ≡ 0 → TrialSolved sheet sound state t (triedIn sheet state t .next)
+  pub keepings : (t : Trial) (offered next : List ℕ) → let kept = keepLeaves (trialLeaves sheet state t .trial) offered next in
+      kept .number ≡ 0 → TrialSolved sheet sound state t (kept .next)
   pub range : (pair : List ℕ) → RangeDecided (sheetOf sheet) sound (stateOf state) pair
   -- An unused rod has no plastic strain (SPEC 5.6).
   pub unused : plasticAt (sheetOf sheet) (unusedOf (sheetOf sheet)) ≡ pos 0

@@ -1,6 +1,7 @@
--- Lists of calls as a fold over situations, and demand 3 as one claim over a whole list (SPEC 11.1 to 11.6, 11.8 to 11.11, 11.13), cited by
--- proofs/Demands; definitions only, over what a call leaves and never over the program, nothing is assumed.
-use Prim.Native.Nat.{ℕ, _-_, _*_, _≤_, _<_}
+-- Lists of calls, of trials and keepings too, as a fold over situations, and demand 3 as one claim over a whole list (SPEC 11.1 to 11.6,
+-- 11.8 to 11.11, 11.13 to 11.16), cited by proofs/Demands; definitions only, over what each leaves and never over the program, nothing is
+-- assumed.
+use Prim.Native.Nat.{ℕ, _+_, _-_, _*_, _≤_, _<_}
 use mathlib.Core.Path.{_≡_}
 use mathlib.Core.Bool.{true, cond}
 use mathlib.Core.List.{List, [], _∷_, _++_, map}
@@ -8,6 +9,7 @@ use mathlib.Core.Logic.{_↔_}
 use lib.ListN.{length, take, replicate}
 use lib.Dec.{eqb}
 use Rattle.refusals.specs.Table.{NoneApplies}
+use Rattle.bits.specs.Field.{flag}
 use Rattle.pair.specs.declared.Pair.{Pair}
 use Rattle.pair.specs.Pairs.{pairOf, pairLength}
 use Rattle.row.specs.declared.Row.{Row}
@@ -15,12 +17,26 @@ use Rattle.row.specs.Rows.{rowOf, rowLength}
 use Rattle.sheet.specs.Sheets.{sheetOf}
 use Rattle.sheet.specs.Sound.{SheetSound}
 use Rattle.state.specs.States.{stateOf, stateLength}
+use Rattle.carry.specs.Walk.{yieldedRows}
 use Rattle.accuracy.specs.Within.{PassesLimit, AtStop}
 use Rattle.judge.specs.Standing.{standingRefusals}
-use Rattle.tie_rod.specs.Calls.{Call, call, run, pieces, pieceAt, countIn, callLeaves}
+use Rattle.tie_rod.specs.Calls.{Call, call, run, pieces, pieceAt, countIn, Left, callLeaves}
+use Rattle.trial.specs.Trials.{Trial, trialLeaves, Kept, keepLeaves}
 
--- SPEC 11.4, 11.13: a situation is what a list of calls has come to: the state that the next call is given; the history, which is the
--- papers' term for all pairs accepted so far, call by call; and the rows written for them.
+-- SPEC 11.14: a keeping in a list: of a trial, which any state may have been given, and with what its lent buffer holds before it.
+pub record Keeping : Type 0 where
+  pub start : List ℕ
+  pub trial : Trial
+  pub next : List ℕ
+
+-- SPEC 11.1: what a list is made of. A single pair or a run carries the rod on, a trial tries a pair, a keeping keeps a trial.
+pub data Operation : Type 0 where
+  carries : Call → Operation
+  tries : Trial → Operation
+  keeps : Keeping → Operation
+
+-- SPEC 11.4, 11.13: a situation is what a list has come to: the state that the next call, trial or keeping is given; the history, which is
+-- the papers' term for all pairs that the rod has been carried over, in order; and the rows written for them.
 pub record Situation : Type 0 where
   pub state : List ℕ
   pub history : List Pair
@@ -35,7 +51,11 @@ begins unused = record { state = unused; history = []; rows = [] }
 abbrev pub acceptedBy : (number place pairs : ℕ) → ℕ
 acceptedBy number place pairs = cond (eqb number 0) pairs (place - 1)
 
--- All calls are on one sheet.
+-- The row of a single pair or a trial.
+abbrev pub rowIn : Left → Row
+rowIn l = rowOf (take rowLength (l .rows))
+
+-- All of a list is on one sheet.
 module _ (sheet : List ℕ) where
   -- SPEC 11.3: the same of a call that is given this state.
   unfoldable pub acceptedIn : (state : List ℕ) → Call → ℕ
@@ -68,10 +88,37 @@ module _ (sheet : List ℕ) where
   abbrev pub afterCall : Situation → Call → Situation
   afterCall s c = added s c (acceptedIn (s .state) c) (stateAfter (s .state) c)
 
-  -- SPEC 11.13: the situation behind some calls.
-  unfoldable pub afterCalls : Situation → List Call → Situation
-  afterCalls s [] = s
-  afterCalls s (c ∷ calls) = afterCalls (afterCall s c) calls
+  -- SPEC 11.14: what a trial that is given this state leaves, and its number,
+  abbrev pub triedIn : (state : List ℕ) → Trial → Left
+  triedIn state t = trialLeaves sheet state t .left
+
+  -- and what a keeping leaves that is offered this state. Its trial is one that was made on the list's own sheet.
+  abbrev pub keptIn : (state : List ℕ) → Keeping → Kept
+  keptIn state k = keepLeaves (trialLeaves sheet (k .start) (k .trial) .trial) state (k .next)
+
+  -- SPEC 11.4: a situation with one pair more: that of a trial from some start, with the row that the trial wrote, and this state.
+  abbrev pub withTrial : Situation → (start : List ℕ) → Trial → (state : List ℕ) → Situation
+  withTrial s start t state =
+      record { state = state; history = s .history ++ (pairOf (t .pair) ∷ []); rows = s .rows ++ (rowIn (triedIn start t) ∷ []) }
+
+  -- SPEC 11.15: what an accepted trial answers, as a situation. The list doesn't come to it by the trial alone.
+  abbrev pub trialStop : Situation → Trial → Situation
+  trialStop s t = withTrial s (s .state) t (triedIn (s .state) t .next)
+
+  -- SPEC 11.16: a keeping with number 0 adds its trial's pair and row, and hands its state on; any other leaves all as it was.
+  abbrev pub afterKeeping : Situation → Keeping → Situation
+  afterKeeping s k = cond (eqb (keptIn (s .state) k .number) 0) (withTrial s (k .start) (k .trial) (keptIn (s .state) k .next)) s
+
+  -- SPEC 11.13: the situation behind one operation; a trial leads nowhere.
+  abbrev pub after : Situation → Operation → Situation
+  after s (carries c) = afterCall s c
+  after s (tries t) = s
+  after s (keeps k) = afterKeeping s k
+
+  -- SPEC 11.13: the situation behind some of them.
+  unfoldable pub afterAll : Situation → List Operation → Situation
+  afterAll s [] = s
+  afterAll s (o ∷ list) = afterAll (after s o) list
 
   -- ---- The claim. `sound` says that the sheet passes.
 
@@ -94,7 +141,36 @@ module _ (sheet : List ℕ) where
           → (rowOf (pieceAt rowLength j (callLeaves sheet (s .state) c .rows)) .yielded ≡ true)
           ↔ PassesLimit (sheetOf sheet) sound (stateOf (stateIn (s .state) c j)) (pairOf (pieceAt pairLength j (c .pairs)))
 
-    -- SPEC 11.8, 11.13: demand 3 for a list of calls from a situation: at every stop of each, and at the end.
-    abbrev pub AtEveryStop : Situation → List Call → Type 0
+    -- SPEC 11.15, of a trial: it meets none of 1 to 6 and 13, and nothing has moved. Where it is accepted, its row and its next state lie
+    -- within k and its own yielded bit of the bar that is fed its pair too, and the row is marked as any other.
+    pub record AtTrial (s : Situation) (t : Trial) : Type 0 where
+      pub standing : NoneApplies (standingRefusals sheet (s .state))
+      pub stop : Holds (after s (tries t))
+      pub tried : triedIn (s .state) t .reply .number ≡ 0 → Holds (trialStop s t)
+      pub counted : yieldedRows (trialStop s t .rows) ≡ yieldedRows (s .rows) + flag (rowIn (triedIn (s .state) t) .yielded)
+      pub marked : triedIn (s .state) t .reply .number ≡ 0
+          → (rowIn (triedIn (s .state) t) .yielded ≡ true) ↔ PassesLimit (sheetOf sheet) sound (stateOf (s .state)) (pairOf (t .pair))
+
+    -- SPEC 11.16, of a keeping: all holds before it and behind it. Where it has number 0, its trial was given the list's state and was
+    -- accepted, and it hands that trial's next state on; behind it no keeping of that trial has number 0 again.
+    pub record AtKeeping (s : Situation) (k : Keeping) : Type 0 where
+      pub before : Holds s
+      pub behind : Holds (after s (keeps k))
+      pub from : keptIn (s .state) k .number ≡ 0 → k .start ≡ s .state
+      pub accepted : keptIn (s .state) k .number ≡ 0 → triedIn (k .start) (k .trial) .reply .number ≡ 0
+      pub hands : keptIn (s .state) k .number ≡ 0 → keptIn (s .state) k .next ≡ triedIn (k .start) (k .trial) .next
+      pub marked : keptIn (s .state) k .number ≡ 0
+          → (rowIn (triedIn (k .start) (k .trial)) .yielded ≡ true) ↔ PassesLimit (sheetOf sheet) sound (stateOf (s .state)) (pairOf (k .trial .pair))
+      pub once : keptIn (s .state) k .number ≡ 0 → (between : List Operation)
+          → keptIn (afterAll (after s (keeps k)) between .state) k .number ≡ 0 → ⊥
+
+    -- SPEC 11.8, 11.15, 11.16, of one operation,
+    abbrev pub AtOperation : Situation → Operation → Type 0
+    AtOperation s (carries c) = AtCall s c
+    AtOperation s (tries t) = AtTrial s t
+    AtOperation s (keeps k) = AtKeeping s k
+
+    -- SPEC 11.8, 11.13: and demand 3 for a list from a situation: at every stop of each, and at the end.
+    abbrev pub AtEveryStop : Situation → List Operation → Type 0
     AtEveryStop s [] = Holds s
-    AtEveryStop s (c ∷ calls) = AtCall s c × AtEveryStop (afterCall s c) calls
+    AtEveryStop s (o ∷ list) = AtOperation s o × AtEveryStop (after s o) list

@@ -19,7 +19,7 @@ use Rattle.section.specs.declared.Member.{Member}
 use Rattle.section.specs.declared.Change.{Change}
 use Rattle.section.specs.Sections.{memberPair, memberTable, sectionRefusals, forceOf, momentOf, mostForce, mostMoment, sum, turnedAway, sectionLeaves}
 use Rattle.tie_rod.specs.Calls.{Call, call, single, callLeaves}
-use Rattle.demands.specs.Lists.{Situation, begins, afterCalls, Holds, AtEveryStop}
+use Rattle.demands.specs.Lists.{Operation, carries, begins, afterAll, Holds, AtEveryStop}
 
 -- ---- Demand 1 for a section
 
@@ -48,8 +48,8 @@ abbrev pub loneCall : Change → Member → Call
 loneCall c m = call single (pairBytes (memberPair c m)) (replicate rowLength 0) (replicate stateLength 0)
 
 -- SPEC 15.10: the calls of the lone rod beside a member: a single pair for each of some changes.
-abbrev pub loneCalls : Member → List Change → List Call
-loneCalls m changes = map (λ (c : Change). loneCall c m) changes
+abbrev pub loneCalls : Member → List Change → List Operation
+loneCalls m changes = map (λ (c : Change). carries (loneCall c m)) changes
 
 -- SPEC 15.9: a member that moved is where a lone rod of its state is after that single pair, which is accepted.
 pub record MovedAlone (sheet : List ℕ) (c : Change) (m after : Member) : Type 0 where
@@ -137,9 +137,9 @@ module _ (sheet : List ℕ) where
     pub record LikeLone (changes : List Change) (began m : Member) : Type 0 where
       pub area : m .area ≡ began .area
       pub offset : m .offset ≡ began .offset
-      pub state : m .state ≡ afterCalls sheet (begins unused) (loneCalls began changes) .state
-      pub history : afterCalls sheet (begins unused) (loneCalls began changes) .history ≡ map (λ (c : Change). memberPair c began) changes
-      pub holds : Holds sheet sound (afterCalls sheet (begins unused) (loneCalls began changes))
+      pub state : m .state ≡ afterAll sheet (begins unused) (loneCalls began changes) .state
+      pub history : afterAll sheet (begins unused) (loneCalls began changes) .history ≡ map (λ (c : Change). memberPair c began) changes
+      pub holds : Holds sheet sound (afterAll sheet (begins unused) (loneCalls began changes))
       pub every-stop : AtEveryStop sheet sound (begins unused) (loneCalls began changes)
 
     -- SPEC 15.11: demand 3 for a list of section calls: it holds of every member before each call, and at the end.
@@ -147,8 +147,8 @@ module _ (sheet : List ℕ) where
     AtEverySection began s [] = EachAfter (LikeLone (s .changes)) began (s .members)
     AtEverySection began s (c ∷ changes) = EachAfter (LikeLone (s .changes)) began (s .members) × AtEverySection began (afterSection s c) changes
 
-    -- SPEC 11.8, 15.11: demand 3 whole: lists of calls of a rod that begins unused, and lists of section calls whose members do.
+    -- SPEC 11.8, 15.11: demand 3 whole: lists of a rod that begins unused, and lists of section calls whose members do.
     pub record WithinFrom : Type 0 where
-      pub calls : (calls : List Call) → AtEveryStop sheet sound (begins unused) calls
+      pub lists : (list : List Operation) → AtEveryStop sheet sound (begins unused) list
       pub sections : (members : List Member) → Each (λ (m : Member). m .state ≡ unused) members
           → (changes : List Change) → AtEverySection members (sectionBegins members) changes

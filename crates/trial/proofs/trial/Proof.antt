@@ -2,7 +2,7 @@ use mathlib.Core.Path.{_≡_, sym, ap, _∙_}
 use borrow.Author.Needs.{needs}
 use borrow.Author.Tests.{eq-eqb, ne-eqb}
 use lib.ListN.{length}
-use Rattle.tie_rod.specs.Calls.{Left, callLeaves}
+use Rattle.tie_rod.specs.Calls.{Left}
 use Rattle.tie_rod.proofs.Numbers.{Whole, call-small, reply-small, accepted-whole}
 use Rattle.trial.specs.Trials.{Trial, trialOf, asSingle, trialLength}
 use Rattle.trial.proofs.TrialLaws.{tried-as}

@@ -1,0 +1,83 @@
+-- A single pair that is accepted (SPEC 9.6, 11.3, 11.4): it is one pair, and leads to its state with its own pair and row.
+use Prim.Native.Nat.{ℕ, _+_, _/_}
+use mathlib.Core.Path.{_≡_, sym, ap, _∙_}
+use mathlib.Core.List.{List, [], _∷_, _++_, map}
+use mathlib.Core.Logic.{_⊎_, inl, inr}
+use native.Mathlib.Omega.{arith}
+use borrow.Author.Tests.{eqb-true, not-false, eq-eqb}
+use lib.Dec.{eqb}
+use lib.ListN.{length}
+use lib.Seq.{take-all}
+use Rattle.refusals.specs.Table.{NoneApplies, Given}
+use Rattle.refusals.proofs.FirstLaws.{decides}
+use Rattle.pair.specs.Pairs.{pairOf, pairLength}
+use Rattle.row.specs.Rows.{rowOf, rowLength}
+use Rattle.state.specs.States.{stateLength}
+use Rattle.judge.specs.Standing.{standingRefusals}
+use Rattle.tie_rod.specs.Calls.{Call, call, single, pieces, pieceAt, countIn, lengthRefusals, callRefusals, Left, callLeaves}
+use Rattle.tie_rod.proofs.Numbers.{accepted-whole}
+use Rattle.demands.specs.Lists.{Situation, acceptedBy, acceptedIn, stateAfter, rowIn, afterCall}
+use Rattle.demands.proofs.Demand1.{when-standing, standing-number, when-call, call-number}
+
+-- The bytes of one pair are that pair.
+pub lone-pieces : (bytes : List ℕ) → length bytes ≡ pairLength → pieces pairLength 1 bytes ≡ bytes ∷ []
+unfolding pieces
+lone-pieces bytes long = ap (λ (l : List ℕ). l ∷ []) (take-all pairLength bytes (omega (arith, long)))
+
+module _ (sheet state pair rows next : List ℕ) where
+  abbrev c : Call
+  c = call single pair rows next
+
+  module _ (none : callLeaves sheet state c .reply .number ≡ 0) where
+    pub single-standing : NoneApplies (standingRefusals sheet state)
+    single-standing = by-table (decides (standingRefusals sheet state))
+      where
+        by-table : ((n : ℕ) × Given (standingRefusals sheet state) n) ⊎ NoneApplies (standingRefusals sheet state) → NoneApplies (standingRefusals sheet state)
+        by-table (inl (n, g)) =
+            absurd (standing-number sheet state c g (sym (ap (λ (l : Left). l .reply .number) (when-standing sheet state c g)) ∙ none))
+        by-table (inr is) = is
+
+    single-own : NoneApplies (callRefusals c)
+    single-own = by-table (decides (callRefusals c))
+      where
+        by-table : ((n : ℕ) × Given (callRefusals c) n) ⊎ NoneApplies (callRefusals c) → NoneApplies (callRefusals c)
+        by-table (inl (n, g)) =
+            absurd (call-number sheet state c g (sym (ap (λ (l : Left). l .reply .number) (when-call sheet state c single-standing g)) ∙ none))
+        by-table (inr is) = is
+
+    -- The list is as long as a pair,
+    pub single-long : length pair ≡ pairLength
+    unfolding lengthRefusals
+    single-long = eqb-true (length pair) pairLength (not-false (eqb (length pair) pairLength) (single-own .0))
+
+    -- its first piece is the whole of it,
+    pub single-pair : pieceAt pairLength 0 pair ≡ pair
+    single-pair = take-all pairLength pair (omega (arith, single-long))
+
+    -- one pair was accepted,
+    pub single-accepted : acceptedIn sheet state c ≡ 1
+    unfolding acceptedIn
+    single-accepted =
+        ap (λ (n : ℕ). acceptedBy n (callLeaves sheet state c .reply .place) (countIn pair)) none ∙ ap (λ (n : ℕ). n / pairLength) single-long
+
+    -- and the state is handed on.
+    pub single-after : stateAfter sheet state c ≡ callLeaves sheet state c .next
+    unfolding stateAfter
+    single-after = rw (eq-eqb (length next) stateLength (accepted-whole sheet state c none .lent))
+
+-- Where it leads from a situation.
+module _ (sheet : List ℕ) (s : Situation) (pair rows next : List ℕ) where
+  abbrev leaves : Left
+  leaves = callLeaves sheet (s .state) (call single pair rows next)
+
+  pub single-leads : leaves .reply .number ≡ 0
+      → afterCall sheet s (call single pair rows next)
+      ≡ record { state = leaves .next; history = s .history ++ (pairOf pair ∷ []); rows = s .rows ++ (rowIn leaves ∷ []) }
+  unfolding pieces
+  single-leads none =
+      let accepted = single-accepted sheet (s .state) pair rows next none in
+      let pairs : map pairOf (pieces pairLength (acceptedIn sheet (s .state) (call single pair rows next)) pair) ≡ pairOf pair ∷ [] =
+      ap (λ (n : ℕ). map pairOf (pieces pairLength n pair)) accepted ∙ ap (λ (l : List (List ℕ)). map pairOf l) (lone-pieces pair (single-long sheet (s .state) pair rows next none)) in
+      let written : map rowOf (pieces rowLength (acceptedIn sheet (s .state) (call single pair rows next)) (leaves .rows)) ≡ rowIn leaves ∷ [] =
+      ap (λ (n : ℕ). map rowOf (pieces rowLength n (leaves .rows))) accepted in
+      λ i. record { state = single-after sheet (s .state) pair rows next none i; history = s .history ++ pairs i; rows = s .rows ++ written i }
