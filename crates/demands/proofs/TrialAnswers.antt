@@ -10,10 +10,10 @@ use borrow.Author.Tests.{eqb-true, eqb-false, eq-eqb, ne-eqb}
 use lib.Dec.{eqb}
 use lib.ListN.{length}
 use Rattle.refusals.specs.Table.{Refusal, Answer, passes, refused, firstOf, NoneApplies, Given, numbersOf}
-use Rattle.refusals.proofs.FirstLaws.{both-hold, answer-number, refused-given, given-refused, none-passes, passes-none-applies, passes-given}
+use Rattle.refusals.proofs.FirstLaws.{both-hold, answer-number, refused-given, given-refused, none-passes, passes-none-applies, passes-anyhow}
 use Rattle.state.specs.States.{stateLength}
-use Rattle.trial.specs.Trials.{Trial, trialLeaves, nextIn, sameBytes, keepRefusals, Kept, kept, keptBy, keepLeaves}
-use Rattle.trial.proofs.TrialLaws.{same-are, are-same, not-same, differ-not, trial-single, made-long, keep-made, keep-stops}
+use Rattle.trial.specs.Trials.{Trial, trialLeaves, nextIn, sameBytes, keepRefusals, Kept, kept, keepLeaves}
+use Rattle.trial.proofs.TrialLaws.{same-are, are-same, not-same, differ-not, trial-single, made-long, keep-made, keep-stops, keep-left, keep-handed}
 use Rattle.demands.specs.Lists.{triedIn}
 use Rattle.demands.specs.Trials.{TrialAnswered, KeepingReason, KeepingAnswered, AnythingOffered}
 
@@ -28,7 +28,11 @@ module _ (sheet start : List ℕ) (t : Trial) where
     abbrev tried : ℕ
     tried = triedIn sheet start t .reply .number
 
-    -- An accepted trial is kept from its own start,
+    -- A buffer of another length is turned away first,
+    no-room : (length next ≡ stateLength → ⊥) → leaves ≡ kept 12 next
+    no-room other = keep-left (trialLeaves sheet start t .trial) offered next (keep-stops (trialLeaves sheet start t .trial) offered (length next) other)
+
+    -- then an accepted trial is kept from its own start,
     pub keeps-own : length next ≡ stateLength → offered ≡ start → tried ≡ 0 → leaves ≡ kept 0 (triedIn sheet start t .next)
     keeps-own long own none =
         let same : sameBytes offered start ≡ true = subst (λ (l : List ℕ). sameBytes l start ≡ true) (sym own) (are-same start) in
@@ -61,11 +65,11 @@ module _ (sheet start : List ℕ) (t : Trial) where
         by-buffer true e = by-trial (eqb-true (length next) stateLength e) (eqb tried 0 && sameBytes offered start) refl
         by-buffer false e =
             let other = eqb-false (length next) stateLength e in
-            inl (record { other = other; is = ap (λ (k : Kept). k .number) (keep-stops (trialLeaves sheet start t .trial) offered next other) })
+            inl (record { other = other; is = ap (λ (k : Kept). k .number) (no-room other) })
 
     -- and for no other.
     only-reason : (number : ℕ) → KeepingReason sheet start t offered next number → leaves .number ≡ number
-    only-reason number (inl w) = ap (λ (k : Kept). k .number) (keep-stops (trialLeaves sheet start t .trial) offered next (w .other)) ∙ sym (w .is)
+    only-reason number (inl w) = ap (λ (k : Kept). k .number) (no-room (w .other)) ∙ sym (w .is)
     only-reason number (inr (inl w)) = ap (λ (k : Kept). k .number) (keeps-none (w .long) (w .not-its-own)) ∙ sym (w .is)
     only-reason number (inr (inr w)) = ap (λ (k : Kept). k .number) (keeps-own (w .long) (w .own) (w .accepted)) ∙ sym (w .is)
 
@@ -103,13 +107,8 @@ module _ (trial offered next : List ℕ) where
   unfolding keepRefusals
   some-number e = answer-number Some table (nextIn trial) ((λ z. omega (arith, z)), ((λ z. omega (arith, z)), tt)) e
 
-  is-refused : {n : ℕ} → firstOf table (nextIn trial) ≡ refused n → keepLeaves trial offered next ≡ kept n next
-  unfolding keepLeaves
-  is-refused e = ap (λ (a : Answer (List ℕ)). keptBy a next) e
-
   is-passed : {new : List ℕ} → firstOf table (nextIn trial) ≡ passes new → keepLeaves trial offered next ≡ kept 0 (nextIn trial)
-  unfolding keepLeaves
-  is-passed e = ap (λ (a : Answer (List ℕ)). keptBy a next) e ∙ ap (kept 0) (sym (passes-given table (nextIn trial) e))
+  is-passed e = keep-handed trial offered next (passes-anyhow table (nextIn trial) (nextIn trial) e)
 
   order : numbersOf table ≡ 12 ∷ 15 ∷ []
   unfolding keepRefusals
@@ -127,18 +126,18 @@ module _ (trial offered next : List ℕ) where
       by-answer : (number : ℕ) → keepLeaves trial offered next .number ≡ number → (a : Answer (List ℕ)) → firstOf table (nextIn trial) ≡ a
           → Given table number ⊎ (NoneApplies table × (number ≡ 0))
       by-answer number is (refused n) e =
-          inl (subst (Given table) (sym (ap (λ (k : Kept). k .number) (is-refused e)) ∙ is) (refused-given table (nextIn trial) e))
+          inl (subst (Given table) (sym (ap (λ (k : Kept). k .number) (keep-left trial offered next e)) ∙ is) (refused-given table (nextIn trial) e))
       by-answer number is (passes new) e =
           inr (passes-none-applies table (nextIn trial) e, sym is ∙ ap (λ (k : Kept). k .number) (is-passed e))
 
       back : (number : ℕ) → Given table number ⊎ (NoneApplies table × (number ≡ 0)) → keepLeaves trial offered next .number ≡ number
-      back number (inl g) = ap (λ (k : Kept). k .number) (is-refused (given-refused table (nextIn trial) g))
+      back number (inl g) = ap (λ (k : Kept). k .number) (keep-left trial offered next (given-refused table (nextIn trial) g))
       back number (inr (none, is)) = ap (λ (k : Kept). k .number) (is-passed (none-passes table (nextIn trial) none)) ∙ sym is
 
       kept-back : (keepLeaves trial offered next .number ≡ 0 → ⊥) → (a : Answer (List ℕ)) → firstOf table (nextIn trial) ≡ a → keepLeaves trial offered next .next ≡ next
-      kept-back ne (refused n) e = ap (λ (k : Kept). k .next) (is-refused e)
+      kept-back ne (refused n) e = ap (λ (k : Kept). k .next) (keep-left trial offered next e)
       kept-back ne (passes new) e = absurd (ne (ap (λ (k : Kept). k .number) (is-passed e)))
 
       handed : keepLeaves trial offered next .number ≡ 0 → (a : Answer (List ℕ)) → firstOf table (nextIn trial) ≡ a → keepLeaves trial offered next .next ≡ nextIn trial
-      handed none (refused n) e = absurd (some-number e (sym (ap (λ (k : Kept). k .number) (is-refused e)) ∙ none))
+      handed none (refused n) e = absurd (some-number e (sym (ap (λ (k : Kept). k .number) (keep-left trial offered next e)) ∙ none))
       handed none (passes new) e = ap (λ (k : Kept). k .next) (is-passed e)

@@ -1,1 +1,2 @@
 pub mod TrialLaws
+pub mod StartLaws

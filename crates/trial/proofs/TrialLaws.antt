@@ -4,12 +4,12 @@ use mathlib.Core.Path.{_≡_, refl, sym, ap, subst, _∙_}
 use mathlib.Core.Bool.{Bool, true, false, not, _&&_, and-false, false≢true, cond}
 use mathlib.Core.List.{List, [], _∷_, _++_}
 use native.Mathlib.Omega.{arith}
-use borrow.Author.Tests.{eqb-true, eqb-false, eq-eqb, ne-eqb}
+use borrow.Author.Tests.{eqb-true, eqb-false, eq-eqb, ne-eqb, not-false}
 use lib.Dec.{eqb}
 use lib.ListN.{length, take, length-append}
 use lib.Seq.{take-at, drop-at, take-all}
 use Rattle.refusals.specs.Table.{Answer, passes, refused, firstOf}
-use Rattle.refusals.proofs.FirstLaws.{both-hold}
+use Rattle.refusals.proofs.FirstLaws.{both-hold, passes-line}
 use Rattle.bits.specs.Layout.{bytesOf, put}
 use Rattle.bits.proofs.PutLaws.{put-whole, put-behind, length-put, length-bytesOf}
 use Rattle.state.specs.States.{stateLength}
@@ -44,11 +44,6 @@ not-same a b differ = by-test (sameBytes a b) refl
 
 pub differ-not : (a b : List ℕ) → sameBytes a b ≡ false → a ≡ b → ⊥
 differ-not a b e same = false≢true (sym e ∙ subst (λ (l : List ℕ). sameBytes a l ≡ true) same (are-same a))
-
--- An answer that is right both ways is the test.
-pub same-told : (a b : List ℕ) (r : Bool) → (r ≡ true → a ≡ b) → (a ≡ b → r ≡ true) → r ≡ sameBytes a b
-same-told a b true right back = sym (subst (λ (l : List ℕ). sameBytes a l ≡ true) (right refl) (are-same a))
-same-told a b false right back = sym (not-same a b (λ e. false≢true (back e)))
 
 -- ---- What a trial writes
 
@@ -87,32 +82,50 @@ trial-single sheet state t = refl
 
 -- ---- What a keeping answers
 
-module _ (trial state next : List ℕ) where
-  pub keep-stops : (length next ≡ stateLength → ⊥) → keepLeaves trial state next ≡ kept 12 next
-  unfolding keepLeaves keepRefusals firstOf
-  keep-stops ne = rw (ne-eqb (length next) stateLength ne)
+-- The two lines of its table, by what they test.
+module _ (trial state : List ℕ) (next : ℕ) where
+  abbrev answer : Answer (List ℕ)
+  answer = firstOf (keepRefusals trial state next) (nextIn trial)
 
-  keep-decides : length next ≡ stateLength
-      → keepLeaves trial state next ≡ cond (eqb (numberIn trial) 0 && sameBytes state (startIn trial)) (kept 0 (nextIn trial)) (kept 15 next)
-  unfolding keepLeaves keepRefusals firstOf
-  keep-decides long = rw (eq-eqb (length next) stateLength long) (by-test (eqb (numberIn trial) 0 && sameBytes state (startIn trial)))
+  pub keep-stops : (next ≡ stateLength → ⊥) → answer ≡ refused 12
+  unfolding keepRefusals firstOf
+  keep-stops ne = rw (ne-eqb next stateLength ne)
+
+  pub keep-decides : next ≡ stateLength → answer ≡ cond (eqb (numberIn trial) 0 && sameBytes state (startIn trial)) (passes (nextIn trial)) (refused 15)
+  unfolding keepRefusals firstOf
+  keep-decides long = rw (eq-eqb next stateLength long) (by-test (eqb (numberIn trial) 0 && sameBytes state (startIn trial)))
     where
-      by-test : (t : Bool) → keptBy (cond (not t) (refused 15) (passes (nextIn trial))) next ≡ cond t (kept 0 (nextIn trial)) (kept 15 next)
+      by-test : (t : Bool) → cond (not t) (refused 15) (passes (nextIn trial)) ≡ cond t (passes (nextIn trial)) (refused 15)
       by-test true = refl
       by-test false = refl
 
-  module _ (long : length next ≡ stateLength) where
+  module _ (long : next ≡ stateLength) where
     -- The state that is offered isn't the trial's start,
-    pub keep-elsewhere : sameBytes state (startIn trial) ≡ false → keepLeaves trial state next ≡ kept 15 next
+    pub keep-elsewhere : sameBytes state (startIn trial) ≡ false → answer ≡ refused 15
     keep-elsewhere e = keep-decides long ∙ rw (e, and-false (eqb (numberIn trial) 0))
 
     -- or the trial was refused,
-    pub keep-refused : (numberIn trial ≡ 0 → ⊥) → keepLeaves trial state next ≡ kept 15 next
+    pub keep-refused : (numberIn trial ≡ 0 → ⊥) → answer ≡ refused 15
     keep-refused ne = keep-decides long ∙ rw (ne-eqb (numberIn trial) 0 ne)
 
     -- or it is kept.
-    pub keep-kept : numberIn trial ≡ 0 → sameBytes state (startIn trial) ≡ true → keepLeaves trial state next ≡ kept 0 (nextIn trial)
+    pub keep-kept : numberIn trial ≡ 0 → sameBytes state (startIn trial) ≡ true → answer ≡ passes (nextIn trial)
     keep-kept none e = keep-decides long ∙ rw (eq-eqb (numberIn trial) 0 none, e)
+
+  -- What is kept has a buffer to be kept in.
+  pub kept-room : {new : List ℕ} → answer ≡ passes new → next ≡ stateLength
+  unfolding keepRefusals
+  kept-room e = eqb-true next stateLength (not-false (eqb next stateLength) (passes-line 12 _ _ _ e .0))
+
+-- What it leaves.
+module _ (trial state next : List ℕ) where
+  pub keep-left : {n : ℕ} → answer trial state (length next) ≡ refused n → keepLeaves trial state next ≡ kept n next
+  unfolding keepLeaves
+  keep-left e = ap (λ (a : Answer (List ℕ)). keptBy a next) e
+
+  pub keep-handed : answer trial state (length next) ≡ passes (nextIn trial) → keepLeaves trial state next ≡ kept 0 (nextIn trial)
+  unfolding keepLeaves
+  keep-handed e = ap (λ (a : Answer (List ℕ)). keptBy a next) e
 
 -- ---- A keeping of a trial that was made
 
@@ -163,14 +176,22 @@ module _ (sheet start : List ℕ) (t : Trial) where
   -- Its keeping goes by the trial's own number, start and next state.
   pub keep-made : (offered next : List ℕ) → length next ≡ stateLength
       → keepLeaves made offered next ≡ cond (eqb number 0 && sameBytes offered start) (kept 0 (trialLeaves sheet start t .left .next)) (kept 15 next)
+  unfolding keepLeaves
   keep-made offered next long = by-number (eqb number 0) refl
     where
+      by-test : (b : Bool) → keptBy (cond b (passes (trialLeaves sheet start t .left .next)) (refused 15)) next ≡ cond b (kept 0 (trialLeaves sheet start t .left .next)) (kept 15 next)
+      by-test true = refl
+      by-test false = refl
+
       by-number : (b : Bool) → eqb number 0 ≡ b
           → keepLeaves made offered next ≡ cond (b && sameBytes offered start) (kept 0 (trialLeaves sheet start t .left .next)) (kept 15 next)
       by-number true e =
           let none = eqb-true number 0 e in
-          keep-decides made offered next long ∙ ap (λ (l : List ℕ). cond (eqb (numberIn l) 0 && sameBytes offered (startIn made)) (kept 0 (nextIn made)) (kept 15 next)) (made-accepted none)
-          ∙ (λ i. cond (sameBytes offered (made-start none i)) (kept 0 (made-next none i)) (kept 15 next))
+          let zero : numberIn made ≡ 0 = ap numberIn (made-accepted none) in
+          let new = trialLeaves sheet start t .left .next in
+          let decides : firstOf (keepRefusals made offered (length next)) (nextIn made) ≡ cond (sameBytes offered start) (passes new) (refused 15) =
+          keep-decides made offered (length next) long ∙ rw (eq-eqb (numberIn made) 0 zero, made-start none, made-next none) in
+          ap (λ (a : Answer (List ℕ)). keptBy a next) decides ∙ by-test (sameBytes offered start)
       by-number false e =
           let some = eqb-false number 0 e in
-          keep-refused made offered next long (λ z. some (ap numberIn (sym (made-refused some)) ∙ z))
+          keep-left made offered next (keep-refused made offered (length next) long (λ z. some (ap numberIn (sym (made-refused some)) ∙ z)))

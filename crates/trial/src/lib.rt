@@ -5,10 +5,11 @@ use tie_rod::entry;
 ghost use mathlib.Core.Path.{_≡_};
 ghost use Prim.Native.Nat.{_+_, _≤_, _<_};
 ghost use lib.ListN.{length};
+ghost use Rattle.refusals.specs.Table.{firstOf, numbered};
 ghost use Rattle.bits.specs.Layout.{put};
 ghost use Rattle.state.specs.States.{stateLength};
 ghost use Rattle.tie_rod.specs.Calls.{left};
-ghost use Rattle.trial.specs.Trials.{acceptedBytes, keepLeaves, kept, refusedBytes, trialLeaves, trialLeft, trialLength, trialOf};
+ghost use Rattle.trial.specs.Trials.{acceptedBytes, keepLeaves, keepRefusals, kept, nextIn, refusedBytes, sameBytes, startIn, trialLeaves, trialLeft, trialLength, trialOf};
 
 // Where everything stands in a trial's bytes (SPEC 16.3): its number in the first, its start, its next state.
 const START_AT: usize = 1;
@@ -67,19 +68,49 @@ pub fn trial(
     reply
 }
 
-// Keeps a trial (SPEC 16.4, 16.5): 12, then 15, or its next state is handed on.
+// Whether all of a state's bytes are those of a trial's start.
+fn is_start(tried: &[u8], state: &[u8]) -> bool
+    requires { ⌜ length (now tried) ≡ trialLength ⌝ }
+    ensures { λ r. ⌜ r ≡ sameBytes (now (state .entry)) (startIn (now (tried .entry))) ⌝ }
+{
+    if state.len() != state::STATE_LENGTH {
+        return false;
+    }
+    let mut i = 0;
+    while i < state::STATE_LENGTH {
+        if state[i] != tried[START_AT + i] {
+            return false;
+        }
+        i += 1;
+    }
+    true
+}
+
+// 12 or 15, or 0 where neither applies (SPEC 16.4).
+fn keep_number(tried: &[u8], state: &[u8], next: usize) -> u64
+    requires { ⌜ length (now tried) ≡ trialLength ⌝ }
+    ensures { λ r. ⌜ numbered r (nextIn (now (tried .entry))) ≡ firstOf (keepRefusals (now (tried .entry)) (now (state .entry)) next) (nextIn (now (tried .entry))) ⌝ }
+{
+    if next != state::STATE_LENGTH {
+        return 12;
+    }
+    if tried[0] != 0 {
+        return 15;
+    }
+    if !is_start(tried, state) {
+        return 15;
+    }
+    0
+}
+
+// Keeps a trial (SPEC 16.5): its next state is handed on, or nothing is written beside a number.
 pub fn keep(trial: &[u8; 75], state: &[u8], next: &mut [u8]) -> u64
     ensures { λ r. ⌜ kept r (now (next .exit)) ≡ keepLeaves (now (trial .entry)) (now (state .entry)) (now (next .entry)) ⌝ }
 {
-    if next.len() != state::STATE_LENGTH {
-        return 12;
-    }
-    if trial[0] != 0 {
-        return 15;
-    }
     let tried = &trial[..];
-    if !check::same(state, &tried[START_AT..NEXT_AT]) {
-        return 15;
+    let number = keep_number(tried, state, next.len());
+    if number != 0 {
+        return number;
     }
     bytes::copy(&tried[NEXT_AT..TRIAL_LENGTH], next);
     0
