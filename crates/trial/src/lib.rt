@@ -97,10 +97,10 @@ fn keep_number(tried: &[u8], state: &[u8], next: usize) -> u64
     if tried[0] != 0 {
         return 15;
     }
-    if !is_start(tried, state) {
-        return 15;
+    if is_start(tried, state) {
+        return 0;
     }
-    0
+    15
 }
 
 // Keeps a trial (SPEC 16.5): its next state is handed on, or nothing is written beside a number.
@@ -109,9 +109,8 @@ pub fn keep(trial: &[u8; 75], state: &[u8], next: &mut [u8]) -> u64
 {
     let tried = &trial[..];
     let number = keep_number(tried, state, next.len());
-    if number != 0 {
-        return number;
+    if number == 0 {
+        bytes::copy(&tried[NEXT_AT..TRIAL_LENGTH], next);
     }
-    bytes::copy(&tried[NEXT_AT..TRIAL_LENGTH], next);
-    0
+    number
 }

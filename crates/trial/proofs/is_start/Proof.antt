@@ -1,6 +1,7 @@
 use Prim.Native.Nat.{_-_}
 use mathlib.Core.Path.{sym, ap, _∙_}
 use borrow.Author.Needs.{needs}
+use native.Mathlib.Omega.{arith}
 use lib.ListN.{length}
 use Rattle.state.specs.States.{stateLength}
 use Rattle.trial.specs.Trials.{startIn}
@@ -25,18 +26,18 @@ returns-2 : tie.Need-returns-2 Inv-loop μ-loop
 returns-2 c =
     let loop = c .before .before .before in
     let head = loop .before in
-    sym (compared-differ (head .before .if1 .left) (head .before .before .pre) (head .loop .inv) (loop .loop-test .taken) (c .if2 .taken))
+    sym (compared-differ (head .before .if1 .left) (head .before .before .pre) (head .loop .inv) (omega (arith, loop .loop-test .taken)) (c .if2 .taken))
 
 loop-again : tie.Need-loop-again Inv-loop μ-loop
 loop-again c =
     let loop = c .before .before .before in
     let head = loop .before in
-    compared-on (head .before .if1 .left) (head .before .before .pre) (head .loop .inv) (loop .loop-test .taken) (c .if2 .left)
+    compared-on (head .before .if1 .left) (head .before .before .pre) (head .loop .inv) (omega (arith, loop .loop-test .taken)) (c .if2 .left)
 
 returns-3 : tie.Need-returns-3 Inv-loop μ-loop
 returns-3 c =
     let head = c .before in
-    sym (compared-all (head .before .if1 .left) (head .before .before .pre) (head .loop .inv) (c .loop-test .left))
+    sym (compared-all (head .before .if1 .left) (head .before .before .pre) (head .loop .inv) (omega (arith, c .loop-test .left)))
 
 pub is-start-spec : {M : Type 1} → statement M
 is-start-spec =

@@ -1,6 +1,5 @@
 use mathlib.Core.Path.{sym, _∙_}
 use borrow.Author.Needs.{needs}
-use borrow.Author.Tests.{not-true, not-false}
 use Rattle.trial.proofs.TrialLaws.{keep-stops, keep-elsewhere, keep-refused, keep-kept}
 use Rattle.trial.proofs.keep_number.Statement.{statement}
 use Rattle.trial.proofs.keep_number.Tie as tie
@@ -19,17 +18,17 @@ returns-2 c =
 returns-3 : tie.Need-returns-3
 returns-3 c =
     let start = c .before in
-    let room = start .before .before .before in
+    let number = start .before in
+    let room = number .before .before in
     let a = room .before .before .before .args in
-    sym (keep-elsewhere (a .tried .now) (a .state .now) (a .next) (room .if1 .left) (sym (start .is-start .ensures) ∙ not-true _ (c .if3 .taken)))
+    sym (keep-kept (a .tried .now) (a .state .now) (a .next) (room .if1 .left) (number .if2 .left) (sym (start .is-start .ensures) ∙ c .if3 .taken))
 
 returns-4 : tie.Need-returns-4
 returns-4 c =
     let start = c .before in
-    let number = start .before in
-    let room = number .before .before in
+    let room = start .before .before .before in
     let a = room .before .before .before .args in
-    sym (keep-kept (a .tried .now) (a .state .now) (a .next) (room .if1 .left) (number .if2 .left) (sym (start .is-start .ensures) ∙ not-false _ (c .if3 .left)))
+    sym (keep-elsewhere (a .tried .now) (a .state .now) (a .next) (room .if1 .left) (sym (start .is-start .ensures) ∙ c .if3 .left))
 
 pub keep-number-spec : {M : Type 1} → statement M
 keep-number-spec =
