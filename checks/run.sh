@@ -46,9 +46,11 @@ if [ -n "$others" ]; then
 fi
 
 compile="${CC:-cc} -O2 -Wall -Wextra -Werror -Iinclude"
-quiet $compile -std=c99 -pedantic -o "$out/firmware" examples/firmware.c target/staticlib/libtie_rod_c.a
-"$out/firmware" >"$out/firmware.stdout"
-quiet diff examples/firmware.stdout "$out/firmware.stdout"
+for name in firmware solver; do
+    quiet $compile -std=c99 -pedantic -o "$out/$name" "examples/$name.c" target/staticlib/libtie_rod_c.a
+    "$out/$name" >"$out/$name.stdout"
+    quiet diff "examples/$name.stdout" "$out/$name.stdout"
+done
 quiet $compile -std=c11 -pedantic -o "$out/plate" examples/plate.c $archives
 "$out/plate" >"$out/plate.stdout"
 quiet diff examples/plate.stdout "$out/plate.stdout"
@@ -85,4 +87,4 @@ if [ "$passed" -eq 0 ] || [ "$passed" -ne "$written" ]; then
     echo "failed: $passed Rust tests passed, and checks/ has $written"
     exit 1
 fi
-echo "checks: $passed tests passed in $(($(date +%s) - start)) s; firmware and plate print as stored; the archives export the header's functions and need only mem*"
+echo "checks: $passed tests passed in $(($(date +%s) - start)) s; firmware, solver and plate print as stored; the archives export the header's functions and need only mem*"

@@ -94,6 +94,8 @@ extern "C" {
 #define TIE_ROD_STATE_BYTES 37
 #define TIE_ROD_ROW_BYTES 16
 #define TIE_ROD_PAIR_BYTES 6
+/* What a trial hands to its keeping. */
+#define TIE_ROD_TRIAL_BYTES 75
 /* The most that a sheet's own counts can ask for. One that passes has at most 88. */
 #define TIE_ROD_SHEET_BYTES_MAX 158
 /* The most points that a sheet has. */
@@ -111,6 +113,7 @@ extern "C" {
  * The numbers (SPEC 8.2). A call answers the first of them that applies, in this
  * order: 1, 2, 3, 13, 4, 5, 6, then 7 and 12, then pair by pair 8, 9, 11 and 10.
  * A section: 1, 2, 3, 13, then 14, then rod by rod 5, 6, 8, 9, 11 and 10.
+ * A keeping: 12, then 15.
  */
 enum tie_rod_numbers {
     TIE_ROD_ACCEPTED = 0,
@@ -136,7 +139,7 @@ enum tie_rod_numbers {
 
     /* For the logger. */
     TIE_ROD_LIST_LENGTH = 7,  /* not a whole number of pairs, or more than 4,096; for
-                                 tie_rod_pair: not 6 bytes */
+                                 tie_rod_pair and tie_rod_trial: not 6 bytes */
     TIE_ROD_PAIR_FIELD = 8,   /* a field of the pair isn't in its range */
     TIE_ROD_PAIR_STRAIN = 9,  /* the new strain isn't within -10^8 to 10^8 */
 
@@ -149,12 +152,17 @@ enum tie_rod_numbers {
                                  it, and that none can is not proved yet (SPEC 8.7) */
 
     /* For the caller. */
-    TIE_ROD_BUFFER = 12,      /* rows below 16 bytes a pair, or next not 37 bytes */
+    TIE_ROD_BUFFER = 12,      /* rows below 16 bytes a pair, or next not 37 bytes; for
+                                 tie_rod_keep: next not 37 bytes */
 
     /* For whoever describes the plate. */
-    TIE_ROD_SECTION_FIELD = 14 /* a section's count isn't 1 to 32, or one of its areas,
-                                 offsets, the mean strain or the curvature isn't in
-                                 its range */
+    TIE_ROD_SECTION_FIELD = 14, /* a section's count isn't 1 to 32, or one of its areas,
+                                   offsets, the mean strain or the curvature isn't in
+                                   its range */
+
+    /* For whoever keeps a trial. */
+    TIE_ROD_NOT_KEPT = 15     /* the state offered isn't the one that the trial started
+                                 from, or the trial was itself refused */
 };
 
 /*
@@ -191,6 +199,63 @@ uint64_t tie_rod_pair(const uint8_t *sheet, size_t sheet_len,
                       const uint8_t *state, size_t state_len,
                       const uint8_t *pair, size_t pair_len,
                       uint8_t *row, size_t row_len,
+                      uint8_t *next, size_t next_len);
+
+/*
+ * A trial of a single pair (SPEC 16): says what tie_rod_pair would, and the rod
+ * stays where it is. So a solver can try several changes from one state, look at
+ * their rows, and keep one of them.
+ *
+ * The answer, `row` and `next` are those of tie_rod_pair for the same sheet,
+ * state, pair and buffers, on every answer and in every byte. All 75 bytes of
+ * `trial` are written on every answer; after a refusal it is one that can't be
+ * kept. It is for tie_rod_keep and for nothing else: how it is laid out is the
+ * library's own, so don't look inside it, and don't change it. It may be stored
+ * and kept later.
+ *
+ * `next` is there to be looked at. Never put it on a card by itself: that would
+ * move the rod on without a keeping, and lose whatever has happened to it since
+ * the trial's start. What goes on the card is the `next` of tie_rod_keep. So
+ * tie_rod_has_next is not for this answer; tie_rod_rows is.
+ *
+ * `trial` is never NULL, and overlaps no other buffer of the call.
+ */
+uint64_t tie_rod_trial(const uint8_t *sheet, size_t sheet_len,
+                       const uint8_t *state, size_t state_len,
+                       const uint8_t *pair, size_t pair_len,
+                       uint8_t *row, size_t row_len,
+                       uint8_t *next, size_t next_len,
+                       uint8_t trial[TIE_ROD_TRIAL_BYTES]);
+
+/*
+ * The keeping of a trial (SPEC 16): makes the trial's next state the rod's.
+ * `state` is the state that the rod has now, as its card does. The answer is the
+ * number, 0, 12 or 15; there is no place.
+ *
+ *   number   next                     what it says
+ *   0        the trial's next state   the rod has moved on by the trial's pair
+ *   12       unchanged                `next` hasn't 37 bytes
+ *   15       unchanged                `state` isn't the one that the trial started
+ *                                     from, byte for byte, or the trial was itself
+ *                                     refused; a `state` that hasn't 37 bytes gets
+ *                                     15 too, and never 4
+ *
+ * Of the trials from one state one can be kept: as soon as the rod has moved on,
+ * by a keeping, a single pair or a run, the others get 15, and so does the kept
+ * one. n and k count a kept pair once, and a pair that was only tried never.
+ *
+ * Whoever keeps the state on a card stores this `next` on 0 only, and never the
+ * `next` of a trial. Buffers of one call must not overlap, so lend another `next`
+ * than the card's own bytes, and copy it there afterwards. On 12 and 15 the card
+ * stays as it is. tie_rod_has_next and tie_rod_rows are not for this answer.
+ *
+ * A trial belongs to the sheet that it was made with, which isn't asked for here:
+ * keep it for rods of that sheet only. `trial` is never NULL. Any 75 bytes end
+ * with one of the three numbers, but bytes that no trial wrote lead to no state
+ * that is promised anything.
+ */
+uint64_t tie_rod_keep(const uint8_t trial[TIE_ROD_TRIAL_BYTES],
+                      const uint8_t *state, size_t state_len,
                       uint8_t *next, size_t next_len);
 
 /*
@@ -282,8 +347,8 @@ static inline unsigned tie_rod_number(uint64_t answer)
 }
 
 /*
- * The refused pair's place, from 1, in an answer of tie_rod_run or tie_rod_pair,
- * or the refused rod's in one of tie_rod_section; else 0.
+ * The refused pair's place, from 1, in an answer of tie_rod_run, tie_rod_pair or
+ * tie_rod_trial, or the refused rod's in one of tie_rod_section; else 0.
  */
 static inline size_t tie_rod_place(uint64_t answer)
 {
@@ -293,14 +358,15 @@ static inline size_t tie_rod_place(uint64_t answer)
 /*
  * Whether `next` after tie_rod_run or tie_rod_pair is to be stored: all pairs were
  * accepted, or one of them was refused and so has a place (8 to 11). On any other
- * answer, 13 among them, the card stays as it is.
+ * answer, 13 among them, the card stays as it is. Not for tie_rod_trial, whose
+ * `next` is never stored, nor for tie_rod_keep, whose `next` is on 0.
  */
 static inline int tie_rod_has_next(uint64_t answer)
 {
     return tie_rod_number(answer) == TIE_ROD_ACCEPTED || tie_rod_place(answer) != 0;
 }
 
-/* The rows that tie_rod_run or tie_rod_pair has written: one for each accepted pair. */
+/* The rows that tie_rod_run, tie_rod_pair or tie_rod_trial has written: one for each accepted pair. */
 static inline size_t tie_rod_rows(uint64_t answer, size_t pairs_len)
 {
     size_t place = tie_rod_place(answer);

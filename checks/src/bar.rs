@@ -4,6 +4,7 @@ use crate::fraction::Fraction;
 use crate::rules::{Law, Pair, Sheet, Side};
 
 /// The sheet and the accepted pairs of a history go in, and nothing else.
+#[derive(Clone)]
 pub struct Bar<'a> {
     sheet: &'a Sheet,
     pub strain: Fraction,

@@ -229,6 +229,7 @@ fn damage_bytes(random: &mut Random, call: &mut Call) {
         pairs: Vec::new(),
         rows: Vec::new(),
         next: Vec::new(),
+        trial: Vec::new(),
     };
     generate::damage(random, &mut one);
     call.sheet = one.sheet;

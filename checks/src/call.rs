@@ -12,10 +12,16 @@ pub enum Entry {
     Forecast,
     /// Making an unused rod.
     Unused,
+    /// A trial of a single pair.
+    Trial,
+    /// The keeping of a trial.
+    Keep,
 }
 
 /// The bytes of every buffer before the call. A forecast lends no buffer; an
-/// unused rod is made in `next`, which has 37 bytes then.
+/// unused rod is made in `next`, which has 37 bytes then. A trial fills `trial`,
+/// and a keeping, which has no sheet, pairs and rows, reads it: it has 75 bytes
+/// then, and no other call is lent it.
 #[derive(Clone)]
 pub struct Call {
     pub entry: Entry,
@@ -24,15 +30,26 @@ pub struct Call {
     pub pairs: Vec<u8>,
     pub rows: Vec<u8>,
     pub next: Vec<u8>,
+    pub trial: Vec<u8>,
 }
 
 /// The answer (number + 256 × place, or × tangent for a forecast) and the
-/// bytes of every lent buffer after the call.
+/// bytes of every lent buffer after the call; the state's too, which none writes.
 #[derive(Clone, PartialEq, Eq)]
 pub struct Outcome {
     pub answer: u64,
+    pub state: Vec<u8>,
     pub rows: Vec<u8>,
     pub next: Vec<u8>,
+    pub trial: Vec<u8>,
+}
+
+impl Call {
+    /// The keeping of a trial by a rod that is in this state.
+    pub fn keeping(trial: &[u8], state: &[u8], next: Vec<u8>) -> Call {
+        let (sheet, pairs, rows) = (Vec::new(), Vec::new(), Vec::new());
+        Call { entry: Entry::Keep, sheet, state: state.to_vec(), pairs, rows, next, trial: trial.to_vec() }
+    }
 }
 
 impl Outcome {
@@ -44,7 +61,7 @@ impl Outcome {
         self.answer / 256
     }
 
-    /// The accepted pairs of a run or a single pair, read off number and place.
+    /// The accepted pairs of a run, a single pair or a trial, read off number and place.
     pub fn accepted(&self, pairs: &[u8]) -> usize {
         match self.number() {
             0 => pairs.len() / 6,
@@ -67,6 +84,7 @@ impl fmt::Display for Call {
             ("pairs", &self.pairs),
             ("rows", &self.rows),
             ("next", &self.next),
+            ("trial", &self.trial),
         ] {
             writeln!(f, "{name:6} {} bytes {}", bytes.len(), hex(bytes))?;
         }
@@ -77,8 +95,10 @@ impl fmt::Display for Call {
 impl fmt::Display for Outcome {
     fn fmt(&self, f: &mut fmt::Formatter) -> fmt::Result {
         writeln!(f, "number {} place {}", self.number(), self.place())?;
+        writeln!(f, "state  {}", hex(&self.state))?;
         writeln!(f, "rows   {}", hex(&self.rows))?;
-        writeln!(f, "next   {}", hex(&self.next))
+        writeln!(f, "next   {}", hex(&self.next))?;
+        writeln!(f, "trial  {}", hex(&self.trial))
     }
 }
 
@@ -89,10 +109,13 @@ pub fn difference(wanted: &Outcome, got: &Outcome) -> Option<String> {
     }
     let place = |a: &[u8], b: &[u8]| a.iter().zip(b).position(|(a, b)| a != b);
     Some(format!(
-        "answers equal: {}; first other byte of rows: {:?}; of next: {:?}\nwanted:\n{wanted}got:\n{got}",
+        "answers equal: {}; first other byte of rows: {:?}; of next: {:?}; of trial: {:?}; of state: {:?}\n\
+         wanted:\n{wanted}got:\n{got}",
         wanted.answer == got.answer,
         place(&wanted.rows, &got.rows),
         place(&wanted.next, &got.next),
+        place(&wanted.trial, &got.trial),
+        place(&wanted.state, &got.state),
     ))
 }
 
@@ -104,13 +127,17 @@ pub fn shortest(call: &Call, fault: impl Fn(&Call) -> bool) -> Call {
 
 /// The call by the quick version in 64 bits.
 pub fn plain(call: &Call) -> Outcome {
-    let Call { entry, sheet, state, pairs, .. } = call;
-    let (mut rows, mut next) = (call.rows.clone(), call.next.clone());
+    let Call { entry, sheet, state, pairs, mut rows, mut next, mut trial } = call.clone();
     let answer = match entry {
-        Entry::Run => crate::plain::run(sheet, state, pairs, &mut rows, &mut next),
-        Entry::Pair => crate::plain::pair(sheet, state, pairs, &mut rows, &mut next),
-        Entry::Forecast => crate::plain::forecast(sheet, state),
-        Entry::Unused => crate::plain::unused(sheet, next.first_chunk_mut().unwrap()),
+        Entry::Run => crate::plain::run(&sheet, &state, &pairs, &mut rows, &mut next),
+        Entry::Pair => crate::plain::pair(&sheet, &state, &pairs, &mut rows, &mut next),
+        Entry::Forecast => crate::plain::forecast(&sheet, &state),
+        Entry::Unused => crate::plain::unused(&sheet, next.first_chunk_mut().unwrap()),
+        Entry::Trial => {
+            let trial = trial.first_chunk_mut().unwrap();
+            crate::plain::trial(&sheet, &state, &pairs, &mut rows, &mut next, trial)
+        }
+        Entry::Keep => crate::plain::keep(trial.first_chunk().unwrap(), &state, &mut next),
     };
-    Outcome { answer, rows, next }
+    Outcome { answer, state, rows, next, trial }
 }

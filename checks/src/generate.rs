@@ -12,6 +12,7 @@ use crate::plain;
 use crate::random::Random;
 use crate::rules;
 use crate::steer::{Piece, Rod, Steel};
+use crate::trial::TRIAL_BYTES;
 
 const STRAIN: i64 = 100_000_000;
 const STRESS: i64 = 100_000_000_000_000;
@@ -342,7 +343,7 @@ pub fn pairs(random: &mut Random, sheet: &[u8], state: &[u8], count: usize, bad:
     pairs_by(random, pair, sheet, state, count, bad)
 }
 
-type NextPair = fn(&mut Random, &Steel, &Rod) -> [i64; 3];
+pub type NextPair = fn(&mut Random, &Steel, &Rod) -> [i64; 3];
 
 /// Pairs, each chosen by `choose` from the state reached before it.
 pub fn pairs_by(
@@ -378,25 +379,30 @@ pub fn reached_state(random: &mut Random, sheet: &[u8]) -> Vec<u8> {
     next
 }
 
+/// A state that passes on a sheet: of the unused rod, one that pairs lead to, or any.
+pub fn state(random: &mut Random, sheet: &[u8]) -> Vec<u8> {
+    match random.below(4) {
+        0 => unused_state(sheet),
+        1 => reached_state(random, sheet),
+        _ => any_state(random, &Steel::read(sheet)),
+    }
+}
+
 // ---- calls ----
 
-/// A run or a single pair on buffers that fit, all their bytes random.
+/// A call on buffers that fit, the bytes of rows and next state random.
 pub fn with_buffers(random: &mut Random, entry: Entry, sheet: Vec<u8>, state: Vec<u8>, pairs: Vec<u8>) -> Call {
     let spare = if random.chance(40) { random.below(40) as usize } else { 0 };
     let rows = random.bytes(pairs.len() / PAIR_BYTES * ROW_BYTES + spare);
     let next = random.bytes(STATE_BYTES);
-    Call { entry, sheet, state, pairs, rows, next }
+    Call { entry, sheet, state, pairs, rows, next, trial: vec![0xee; TRIAL_BYTES] }
 }
 
 /// A call of any entry on a sheet and a state that pass. Of the runs a quarter
 /// holds a pair that is to be refused.
 pub fn valid(random: &mut Random) -> Call {
     let sheet = sheet(random);
-    let state = match random.below(4) {
-        0 => unused_state(&sheet),
-        1 => reached_state(random, &sheet),
-        _ => any_state(random, &Steel::read(&sheet)),
-    };
+    let state = state(random, &sheet);
     match random.below(20) {
         0 => return with_buffers(random, Entry::Forecast, sheet, state, Vec::new()),
         1 => return with_buffers(random, Entry::Unused, sheet, state, Vec::new()),
@@ -680,7 +686,7 @@ pub fn random_bytes(random: &mut Random) -> Call {
     let rows = random.bytes(rows);
     let next = if entry == Entry::Unused || random.chance(70) { STATE_BYTES } else { random.below(80) as usize };
     let next = random.bytes(next);
-    Call { entry, sheet, state, pairs, rows, next }
+    Call { entry, sheet, state, pairs, rows, next, trial: vec![0xee; TRIAL_BYTES] }
 }
 
 // ---- the ends of the ranges ----

@@ -12,12 +12,15 @@ pub mod generate;
 pub mod layout;
 #[cfg(feature = "library")]
 pub mod library;
+pub mod list;
 pub mod log;
 pub mod plain;
 pub mod random;
 pub mod rules;
 pub mod section;
+pub mod solver;
 pub mod steer;
+pub mod trial;
 
 use call::{difference, Call, Outcome};
 

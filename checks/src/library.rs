@@ -3,6 +3,7 @@
 
 use crate::call::{Call, Entry, Outcome};
 use crate::section::{self, Member, UNWRITTEN};
+use crate::trial::TRIAL_BYTES;
 
 extern "C" {
     fn tie_rod_run(
@@ -31,6 +32,20 @@ extern "C" {
     ) -> u64;
     fn tie_rod_forecast(sheet: *const u8, sheet_len: usize, state: *const u8, state_len: usize) -> u64;
     fn tie_rod_unused(sheet: *const u8, sheet_len: usize, state: *mut u8) -> u64;
+    fn tie_rod_trial(
+        sheet: *const u8,
+        sheet_len: usize,
+        state: *const u8,
+        state_len: usize,
+        pair: *const u8,
+        pair_len: usize,
+        row: *mut u8,
+        row_len: usize,
+        next: *mut u8,
+        next_len: usize,
+        trial: *mut u8,
+    ) -> u64;
+    fn tie_rod_keep(trial: *const u8, state: *const u8, state_len: usize, next: *mut u8, next_len: usize) -> u64;
     fn tie_rod_section(
         sheet: *const u8,
         sheet_len: usize,
@@ -44,50 +59,51 @@ extern "C" {
     ) -> u64;
 }
 
+/// A call on slices, those that are read and those that are written; behind them the array that has no length.
+macro_rules! on_slices {
+    ($function:ident, [$($read:ident),*], [$($written:ident),*] $(, $array:ident)?) => {
+        // SAFETY: each pointer has its slice's length, and borrowed slices don't overlap; an array has the bytes that
+        // the header says.
+        unsafe {
+            $function(
+                $($read.as_ptr(), $read.len(),)*
+                $($written.as_mut_ptr(), $written.len(),)*
+                $($array.as_mut_ptr())?
+            )
+        }
+    };
+}
+
 pub fn run(sheet: &[u8], state: &[u8], pairs: &[u8], rows: &mut [u8], next: &mut [u8]) -> u64 {
-    // SAFETY: each pointer has its slice's length, and borrowed slices don't overlap.
-    unsafe {
-        tie_rod_run(
-            sheet.as_ptr(),
-            sheet.len(),
-            state.as_ptr(),
-            state.len(),
-            pairs.as_ptr(),
-            pairs.len(),
-            rows.as_mut_ptr(),
-            rows.len(),
-            next.as_mut_ptr(),
-            next.len(),
-        )
-    }
+    on_slices!(tie_rod_run, [sheet, state, pairs], [rows, next])
 }
 
 pub fn pair(sheet: &[u8], state: &[u8], pair: &[u8], row: &mut [u8], next: &mut [u8]) -> u64 {
-    // SAFETY: as for `run`.
-    unsafe {
-        tie_rod_pair(
-            sheet.as_ptr(),
-            sheet.len(),
-            state.as_ptr(),
-            state.len(),
-            pair.as_ptr(),
-            pair.len(),
-            row.as_mut_ptr(),
-            row.len(),
-            next.as_mut_ptr(),
-            next.len(),
-        )
-    }
+    on_slices!(tie_rod_pair, [sheet, state, pair], [row, next])
 }
 
 pub fn forecast(sheet: &[u8], state: &[u8]) -> u64 {
-    // SAFETY: as for `run`.
-    unsafe { tie_rod_forecast(sheet.as_ptr(), sheet.len(), state.as_ptr(), state.len()) }
+    on_slices!(tie_rod_forecast, [sheet, state], [])
 }
 
 pub fn unused(sheet: &[u8], state: &mut [u8; 37]) -> u64 {
-    // SAFETY: as for `run`; the state has the 37 bytes that the call writes.
-    unsafe { tie_rod_unused(sheet.as_ptr(), sheet.len(), state.as_mut_ptr()) }
+    on_slices!(tie_rod_unused, [sheet], [], state)
+}
+
+pub fn trial(
+    sheet: &[u8],
+    state: &[u8],
+    pair: &[u8],
+    row: &mut [u8],
+    next: &mut [u8],
+    trial: &mut [u8; TRIAL_BYTES],
+) -> u64 {
+    on_slices!(tie_rod_trial, [sheet, state, pair], [row, next], trial)
+}
+
+pub fn keep(trial: &[u8; TRIAL_BYTES], state: &[u8], next: &mut [u8]) -> u64 {
+    // SAFETY: as for `on_slices`.
+    unsafe { tie_rod_keep(trial.as_ptr(), state.as_ptr(), state.len(), next.as_mut_ptr(), next.len()) }
 }
 
 pub fn section(
@@ -100,7 +116,7 @@ pub fn section(
     moment: &mut i64,
 ) -> u64 {
     let (rods, count) = (members.as_mut_ptr(), members.len());
-    // SAFETY: as for `run`; a member lies as the C struct does.
+    // SAFETY: as for `on_slices`; a member lies as the C struct does.
     unsafe { tie_rod_section(sheet.as_ptr(), sheet.len(), rods, count, mean, curvature, temperature, force, moment) }
 }
 
@@ -150,44 +166,42 @@ impl Guarded {
 /// the lent buffers.
 pub fn call(call: &Call) -> Outcome {
     let shift = call.sheet.len() + call.pairs.len() + call.next.first().map_or(0, |&byte| byte as usize);
-    let mut sheet = Guarded::new(&call.sheet, shift);
-    let mut state = Guarded::new(&call.state, shift / 2);
-    let mut pairs = Guarded::new(&call.pairs, shift / 4);
-    let mut rows = Guarded::new(&call.rows, shift / 8);
-    let mut next = Guarded::new(&call.next, shift / 16);
-    // SAFETY: each buffer is memory of its own, as long as the call is told;
-    // an unused rod's state has 37 bytes.
-    let answer = unsafe {
-        match call.entry {
-            Entry::Run | Entry::Pair => {
-                let entry = if call.entry == Entry::Run { tie_rod_run } else { tie_rod_pair };
-                entry(
-                    sheet.pointer(),
-                    sheet.len,
-                    state.pointer(),
-                    state.len,
-                    pairs.pointer(),
-                    pairs.len,
-                    rows.pointer(),
-                    rows.len,
-                    next.pointer(),
-                    next.len,
-                )
-            }
-            Entry::Forecast => tie_rod_forecast(sheet.pointer(), sheet.len, state.pointer(), state.len),
-            Entry::Unused => {
-                assert_eq!(next.len, 37);
-                tie_rod_unused(sheet.pointer(), sheet.len, next.pointer())
-            }
-        }
+    let given = [&call.sheet, &call.state, &call.pairs, &call.rows, &call.next, &call.trial];
+    let mut lent: [Guarded; 6] = std::array::from_fn(|i| Guarded::new(given[i], shift >> i));
+    let answer = answer(call.entry, &mut lent);
+    assert!(lent.iter().all(Guarded::untouched_around), "a byte outside the buffers was written\n{call}");
+    let [sheet, state, pairs, rows, next, trial] = lent.map(|buffer| buffer.bytes().to_vec());
+    let read_alone = (&sheet, &state, &pairs) == (&call.sheet, &call.state, &call.pairs);
+    assert!(read_alone, "a byte that is only read was written\n{call}");
+    Outcome { answer, state, rows, next, trial }
+}
+
+/// A call on guarded buffers; behind them the array that has no length.
+macro_rules! on_guarded {
+    ($function:ident, $($buffer:ident),* $(; $array:ident)?) => {
+        $function($($buffer.pointer(), $buffer.len,)* $($array.pointer())?)
     };
-    for buffer in [&sheet, &state, &pairs, &rows, &next] {
-        assert!(buffer.untouched_around(), "a byte outside the buffers was written\n{call}");
+}
+
+/// The answer of the library on sheet, state, pairs, rows, next state and trial.
+fn answer(entry: Entry, [sheet, state, pairs, rows, next, trial]: &mut [Guarded; 6]) -> u64 {
+    match entry {
+        Entry::Unused => assert_eq!(next.len, 37),
+        Entry::Trial | Entry::Keep => assert_eq!(trial.len, TRIAL_BYTES),
+        _ => {}
     }
-    for (buffer, given) in [(&sheet, &call.sheet), (&state, &call.state), (&pairs, &call.pairs)] {
-        assert!(buffer.bytes() == &given[..], "a byte that is only read was written\n{call}");
+    // SAFETY: each buffer is memory of its own, as long as the call is told, and
+    // the arrays have the bytes that the header says.
+    unsafe {
+        match entry {
+            Entry::Run => on_guarded!(tie_rod_run, sheet, state, pairs, rows, next),
+            Entry::Pair => on_guarded!(tie_rod_pair, sheet, state, pairs, rows, next),
+            Entry::Forecast => on_guarded!(tie_rod_forecast, sheet, state),
+            Entry::Unused => on_guarded!(tie_rod_unused, sheet; next),
+            Entry::Trial => on_guarded!(tie_rod_trial, sheet, state, pairs, rows, next; trial),
+            Entry::Keep => tie_rod_keep(trial.pointer(), state.pointer(), state.len, next.pointer(), next.len),
+        }
     }
-    Outcome { answer, rows: rows.bytes().to_vec(), next: next.bytes().to_vec() }
 }
 
 /// Members on either side of those that are lent.

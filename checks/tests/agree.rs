@@ -15,12 +15,12 @@ const RANDOM: usize = 100_000;
 const WRONG_LENGTHS: usize = 100_000;
 const _: () = assert!(VALID + DAMAGED + RANDOM + WRONG_LENGTHS >= 300_000);
 
-const ENTRIES: [Entry; 4] = [Entry::Run, Entry::Pair, Entry::Forecast, Entry::Unused];
+const ENTRIES: [Entry; 5] = [Entry::Run, Entry::Pair, Entry::Forecast, Entry::Unused, Entry::Trial];
 
 /// How often each number was answered, by entry.
 #[derive(Default)]
 struct Tally {
-    numbers: [[usize; 14]; 4],
+    numbers: [[usize; 14]; 5],
 }
 
 impl Tally {
@@ -37,10 +37,11 @@ impl Tally {
         self.numbers[call.entry as usize][wanted.number() as usize] += 1;
     }
 
-    /// The same by every entry; a single pair gets the first of the list.
+    /// The same by every entry; a single pair and a trial get the first of the list.
     fn compare_by_every_entry(&mut self, call: &Call) {
         for entry in ENTRIES {
-            let pairs = if entry == Entry::Pair { &call.pairs[..PAIR_BYTES] } else { &call.pairs };
+            let one = entry == Entry::Pair || entry == Entry::Trial;
+            let pairs = if one { &call.pairs[..PAIR_BYTES] } else { &call.pairs };
             self.compare(&Call { entry, pairs: pairs.to_vec(), ..call.clone() });
         }
     }
@@ -252,6 +253,7 @@ fn ends_of_every_range() {
     }
     let each = [0, 1, 2, 3, 5, 6, 8, 9, 13];
     tally.assert_seen(Entry::Run, &each, 20);
+    tally.assert_seen(Entry::Trial, &each, 20);
 }
 
 type Buffer = fn(&mut Call) -> &mut Vec<u8>;
@@ -342,7 +344,7 @@ fn empty_buffers() {
         let call = generate::valid(&mut random);
         for empty in 0..32 {
             let unless = |bit: usize, bytes: &Vec<u8>| if empty >> bit & 1 == 1 { Vec::new() } else { bytes.clone() };
-            for entry in [Entry::Run, Entry::Pair, Entry::Forecast] {
+            for entry in [Entry::Run, Entry::Pair, Entry::Forecast, Entry::Trial] {
                 tally.compare(&Call {
                     entry,
                     sheet: unless(0, &call.sheet),
@@ -350,6 +352,7 @@ fn empty_buffers() {
                     pairs: unless(2, &call.pairs),
                     rows: unless(3, &call.rows),
                     next: unless(4, &call.next),
+                    trial: call.trial.clone(),
                 });
             }
         }
@@ -445,9 +448,9 @@ impl Seen {
         let sheet = rules::read_sheet(&call.sheet).unwrap();
         let counts = &mut self.counts[sheet.points.len()];
         match call.entry {
-            Entry::Run | Entry::Pair => counts[0] += 1,
             Entry::Forecast => counts[1] += 1,
             Entry::Unused => counts[2] += 1,
+            _ => counts[0] += 1,
         }
         if call.entry == Entry::Forecast || call.entry == Entry::Unused {
             return;

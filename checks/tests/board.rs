@@ -18,6 +18,7 @@ fn run(sheet: &[u8], changes: &[(i64, i64)]) -> (Outcome, Vec<Row>, Vec<u8>) {
         pairs: Vec::new(),
         rows: Vec::new(),
         next: vec![0xee; 37],
+        trial: Vec::new(),
     };
     let state = agreed(&unused).next;
     let pairs =
@@ -29,6 +30,7 @@ fn run(sheet: &[u8], changes: &[(i64, i64)]) -> (Outcome, Vec<Row>, Vec<u8>) {
         pairs: pairs.collect(),
         rows: vec![0xee; 16 * changes.len()],
         next: vec![0xee; 37],
+        trial: Vec::new(),
     };
     let outcome = agreed(&call);
     let rows = outcome.rows.chunks(16).take(outcome.accepted(&call.pairs)).map(Row::read).collect();

@@ -343,7 +343,7 @@ fn stops_with_10_at_pair_1(call: &Call) -> Outcome {
     if call.pairs.is_empty() {
         return rules::call(call);
     }
-    Outcome { answer: 10 + 256, rows: call.rows.clone(), next: call.state.clone() }
+    Outcome { answer: 10 + 256, rows: call.rows.clone(), next: call.state.clone(), ..rules::call(call) }
 }
 
 fn writes_a_constant_row(call: &Call) -> Outcome {
@@ -354,7 +354,7 @@ fn writes_a_constant_row(call: &Call) -> Outcome {
 }
 
 fn turns_every_sheet_away(call: &Call) -> Outcome {
-    Outcome { answer: 2, rows: call.rows.clone(), next: vec![0; call.next.len()] }
+    Outcome { answer: 2, rows: call.rows.clone(), next: vec![0; call.next.len()], ..rules::call(call) }
 }
 
 fn clears_the_rows_behind(call: &Call) -> Outcome {

@@ -3,13 +3,15 @@
 //! plain / proved, above 1 where the proved one is faster; and what points of
 //! the expansion cost, proved time with them / proved time without. Then a
 //! section of 32 rods beside the same rods by a single pair each: nanoseconds a
-//! rod, and the ratio single pairs / section.
+//! rod, and the ratio single pairs / section. Last a trial, and a trial with its
+//! keeping, beside a single pair: nanoseconds a pair, and the ratios to it.
 
 use checks::generate::{self, sheet_bytes};
 use checks::layout;
 use checks::log::with_points;
 use checks::random::Random;
 use checks::section::{Member, RODS};
+use checks::trial::TRIAL_BYTES;
 use checks::{library, plain};
 use std::hint::black_box;
 use std::time::Instant;
@@ -142,6 +144,7 @@ fn main() {
         }
     }
     print_sections(&only);
+    print_trials(&only);
 }
 
 /// The times of the two versions; where the sheet has points, with the proved time without them.
@@ -291,4 +294,94 @@ fn print_section(label: &str, sheet: &[u8], moves: &[Move]) {
     let (ratio, plain_ratio, last) = (pairs / proved, plain_pairs / plain, plain / proved);
     let of_proved = format!("{proved:8.2} {pairs:8.2} {ratio:6.2}");
     println!("{label:50} {flows:>4} % {of_proved} {plain:8.2} {plain_pairs:8.2} {plain_ratio:6.2} {last:6.2}");
+}
+
+// ---- trials ----
+
+type Trial = fn(&[u8], &[u8], &[u8], &mut [u8], &mut [u8], &mut [u8; TRIAL_BYTES]) -> u64;
+type Keep = fn(&[u8; TRIAL_BYTES], &[u8], &mut [u8]) -> u64;
+
+/// A version's single pair, trial and keeping.
+type Calls = (Carry, Trial, Keep);
+
+#[derive(Clone, Copy, PartialEq)]
+enum What {
+    Pair,
+    Trial,
+    Kept,
+}
+
+/// The states before each pair of a list, and the one behind the last.
+fn states_of(sheet: &[u8], pairs: &[u8]) -> Vec<[u8; 37]> {
+    let mut states: Vec<[u8; 37]> = vec![generate::unused_state(sheet).try_into().unwrap()];
+    for (i, bytes) in pairs.chunks(6).enumerate() {
+        let (mut row, mut next) = ([0; 16], [0; 37]);
+        assert_eq!(plain::pair(sheet, &states[i], bytes, &mut row, &mut next), 0);
+        states.push(next);
+    }
+    states
+}
+
+/// Each pair of the list from its state, which is written already.
+fn one_by_one((pair, trial, keep): Calls, what: What, sheet: &[u8], states: &[[u8; 37]], pairs: &[u8]) {
+    let (mut row, mut next, mut tried) = ([0; 16], [0; 37], [0; TRIAL_BYTES]);
+    for ((bytes, state), behind) in pairs.chunks(6).zip(states).zip(&states[1..]) {
+        let (sheet, state, bytes) = (black_box(sheet), black_box(&state[..]), black_box(bytes));
+        let mut answer = match what {
+            What::Pair => pair(sheet, state, bytes, &mut row, &mut next),
+            _ => trial(sheet, state, bytes, &mut row, &mut next, &mut tried),
+        };
+        if what == What::Kept {
+            answer += keep(black_box(&tried), state, black_box(&mut next));
+        }
+        assert!(answer == 0 && next == *behind, "another state than the single pairs'");
+    }
+    black_box((row, tried));
+}
+
+/// The least nanoseconds a pair, proved and plain: of a single pair, a trial, and a trial with its keeping, in turns.
+fn measure_trials(sheet: &[u8], pairs: &[u8]) -> [[f64; 3]; 2] {
+    let states = states_of(sheet, pairs);
+    let versions: [Calls; 2] =
+        [(library::pair, library::trial, library::keep), (plain::pair, plain::trial, plain::keep)];
+    let mut least = [[f64::INFINITY; 3]; 2];
+    for _ in 0..ROUNDS {
+        for (calls, least) in versions.into_iter().zip(&mut least) {
+            for (what, least) in [What::Pair, What::Trial, What::Kept].into_iter().zip(least) {
+                let start = Instant::now();
+                for _ in 0..RUNS_A_ROUND {
+                    one_by_one(black_box(calls), what, sheet, &states, pairs);
+                }
+                *least = least.min(start.elapsed().as_nanos() as f64 / (RUNS_A_ROUND * PAIRS) as f64);
+            }
+        }
+    }
+    least
+}
+
+/// The lines about trials that hold the text.
+fn print_trials(only: &str) {
+    println!();
+    println!(
+        "trials of {PAIRS} pairs, each from a state written before, nanoseconds a pair, the least of {ROUNDS} rounds"
+    );
+    println!("kept: a trial with its keeping; ratios to the single pair; proved, and then plain");
+    let [flows, pair, trial, kept, ratio] = ["flows", "pair", "trial", "kept", "ratio"];
+    let version = format!("{pair:>8} {trial:>8} {ratio:>6} {kept:>8} {ratio:>6}");
+    println!("{:50} {flows:>6} {version} {version}", "");
+    for (sheet_name, sheet) in &sheets() {
+        for (input, pairs) in [("cycles", cycles()), ("mixed", mixed(sheet))] {
+            let label = format!("trial, {sheet_name}, {input}");
+            if label.contains(only) {
+                print_trial(&label, sheet, &pairs);
+            }
+        }
+    }
+}
+
+fn print_trial(label: &str, sheet: &[u8], pairs: &[u8]) {
+    let times = measure_trials(sheet, pairs).map(|[pair, trial, kept]| {
+        format!("{pair:8.2} {trial:8.2} {:6.2} {kept:8.2} {:6.2}", trial / pair, kept / pair)
+    });
+    println!("{label:50} {:>4} % {}", flows(sheet, pairs), times.join(" "));
 }
