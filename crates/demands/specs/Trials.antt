@@ -24,7 +24,7 @@ module _ (sheet start : List ℕ) (t : Trial) (offered next : List ℕ) where
     pub other : length next ≡ stateLength → ⊥
     pub is : number ≡ 12
 
-  -- It is, and the state offered isn't the trial's start, or the trial was refused.
+  -- It is, and the trial had started from another state than the one offered, or had a number itself.
   pub record ByTrial (number : ℕ) : Type 0 where
     pub long : length next ≡ stateLength
     pub not-its-own : (offered ≡ start → ⊥) ⊎ (triedIn sheet start t .reply .number ≡ 0 → ⊥)
