@@ -1,4 +1,4 @@
-// A pair tried on a rod, and its trial kept (SPEC 7.15), by value: a trial answers the rod carried on or a refusal, and moves nothing.
+// A pair tried on a rod, and its trial kept (SPEC 7.15), by value: a trial answers the rod as the pair would leave it, or a refusal.
 use pair::Pair;
 use pair::PairRead;
 use response::Limits;
@@ -26,7 +26,7 @@ pub struct Reached {
     pub thermal: Nano,
 }
 
-// The rod after a pair, and the row of the pair.
+// What an accepted trial comes to: the rod as it would be after the pair, and the row of the pair.
 pub struct Carried {
     pub to: Reached,
     pub row: Row,

@@ -70,7 +70,7 @@ module _ (sheet state : List ℕ) (c : Call) where
   abbrev Some : ℕ → Type 0
   Some n = n ≡ 0 → ⊥
 
-  pub standing-number : {n : ℕ} → Given (standingRefusals sheet state) n → Some n
+  standing-number : {n : ℕ} → Given (standingRefusals sheet state) n → Some n
   standing-number g z =
       let few = answer-number Refuses (standingRefusals sheet state) ready (standing-numbers sheet state) (given-refused (standingRefusals sheet state) ready g) in
       omega (arith, few .least, z)

@@ -149,8 +149,8 @@ module _ (sheet state : List ℕ) (standing : NoneApplies (standingRefusals shee
       subst (λ (x : Rod × List ℕ × Rod). PairSolved (sheetOf sheet) sound (x .0) (pairOf (x .1)) (x .2) (rowIn (callLeaves sheet state (asSingle t))))
       (λ i. (solves .starts i, single-pair sheet state (t .pair) (t .row) (t .next) none i, next i)) (solves .each 0 (omega (arith, one)))
 
-  keeping-solved : (offered next : List ℕ) → keepLeaves (trialLeaves sheet state t .trial) offered next .number ≡ 0
-      → TrialSolved sheet sound state t (keepLeaves (trialLeaves sheet state t .trial) offered next .next)
+  keeping-solved : (offered next : List ℕ) → keepLeaves (trialLeaves sheet state t .bytes) offered next .number ≡ 0
+      → TrialSolved sheet sound state t (keepLeaves (trialLeaves sheet state t .bytes) offered next .next)
   keeping-solved offered next e =
       let keeps = kept-own sheet state t offered next e in
       subst (TrialSolved sheet sound state t) (sym (keeps .is)) (trial-solved (keeps .none))

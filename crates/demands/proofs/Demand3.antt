@@ -9,7 +9,7 @@ use mathlib.Core.Logic.{_↔_}
 use native.Mathlib.Omega.{arith}
 use borrow.Author.Tests.{eqb-true, eq-eqb}
 use lib.Dec.{eqb}
-use lib.ListN.{length, length-append}
+use lib.ListN.{length}
 use Rattle.refusals.specs.Table.{firstOf, passes, NoneApplies}
 use Rattle.refusals.proofs.FirstLaws.{goes-on}
 use Rattle.bits.specs.Field.{flag}
@@ -35,11 +35,11 @@ use Rattle.judge.specs.Standing.{standingRefusals}
 use Rattle.tie_rod.specs.Calls.{Call, pieces, unusedAnswer}
 use Rattle.trial.specs.Trials.{Trial, asSingle, trialLeaves}
 use Rattle.demands.specs.Lists.{Keeping, Operation, carries, tries, keeps, Situation, begins, acceptedIn, stateAfter, stateIn, stopIn, afterCall}
-use Rattle.demands.specs.Lists.{rowIn, triedIn, keptIn, withTrial, trialStop, afterKeeping, after, afterAll, Holds, AtCall, AtTrial, AtKeeping, AtOperation, AtEveryStop}
+use Rattle.demands.specs.Lists.{rowIn, triedIn, keptIn, withTrial, trialStop, afterKeeping, after, afterAll, Holds, AtCall, AtTrial, AtKeeping, AtOperation, AtEveryStop, MovedOn}
 use Rattle.demands.specs.Demands.{PairSolved}
 use Rattle.demands.proofs.Splits.{map-append, history-passes}
 use Rattle.demands.proofs.Accepted.{standing-passes, upto, starts-before, ends-after}
-use Rattle.demands.proofs.TrialAnswers.{kept-own}
+use Rattle.demands.proofs.TrialAnswers.{kept-own, keeping-answered}
 use Rattle.demands.proofs.Singles.{single-leads}
 use Rattle.demands.proofs.Demand2.{each-solved, trial-solved}
 
@@ -48,22 +48,6 @@ yielded-append : (rows : List Row) (row : Row) → yieldedRows (rows ++ (row ∷
 unfolding yieldedRows
 yielded-append [] row = omega arith
 yielded-append (x ∷ rows) row = omega (arith, yielded-append rows row)
-
--- No operation takes a pair out of a history.
-module _ (sheet : List ℕ) where
-  grows-by : (s : Situation) (o : Operation) → length (s .history) ≤ length (after sheet s o .history)
-  grows-by s (carries c) = omega (arith, length-append (s .history) (map pairOf (pieces pairLength (acceptedIn sheet (s .state) c) (c .pairs))))
-  grows-by s (tries t) = omega arith
-  grows-by s (keeps k) = by-number (eqb (keptIn sheet (s .state) k .number) 0)
-    where
-      by-number : (b : Bool) → length (s .history) ≤ length (cond b (withTrial sheet s (k .start) (k .trial) (keptIn sheet (s .state) k .next)) s .history)
-      by-number true = omega (arith, length-append (s .history) (pairOf (k .trial .pair) ∷ []))
-      by-number false = omega arith
-
-  history-grows : (s : Situation) (list : List Operation) → length (s .history) ≤ length (afterAll sheet s list .history)
-  unfolding afterAll
-  history-grows s [] = omega arith
-  history-grows s (o ∷ list) = omega (arith, grows-by s o, history-grows (after sheet s o) list)
 
 module _ (sheet : List ℕ) (passed : firstOf (sheetRefusals sheet) (sheetOf sheet) ≡ passes (sheetOf sheet)) (sound : SheetSound (sheetOf sheet)) where
   abbrev h : Sheet
@@ -130,7 +114,7 @@ module _ (sheet : List ℕ) (passed : firstOf (sheetRefusals sheet) (sheetOf she
           let y = stop-reached (acceptedIn sheet (s .state) c) (omega arith) in
           record { pairs = y .pairs; advances = y .advances; history = y .history; pairs-are = y .pairs-are; rows-are = y .rows-are; state-is = sym ends ∙ y .state-is }
 
-  -- A row is marked exactly where its pair's trial passes a limit.
+  -- A row is marked exactly where its pair's trial stress passes a limit.
   marked-by : {r next : Rod} {p : Pair} {row : Row} → PairSolved h sound r p next row → (row .yielded ≡ true) ↔ PassesLimit h sound r p
   marked-by {r} {next} {p} solves = subst (λ (row : Row). (row .yielded ≡ true) ↔ PassesLimit h sound r p) (sym (solves .row-is)) (solves .solved .passes)
 
@@ -155,7 +139,6 @@ module _ (sheet : List ℕ) (passed : firstOf (sheetRefusals sheet) (sheetOf she
     at-trial : (t : Trial) → AtTrial sheet sound s t
     at-trial t =
         record {
-          standing = standing x;
           stop = holds x;
           tried = λ none. holds (trial-reached t none);
           counted = yielded-append (s .rows) (rowIn (triedIn sheet (s .state) t));
@@ -167,9 +150,9 @@ module _ (sheet : List ℕ) (passed : firstOf (sheetRefusals sheet) (sheetOf she
       kept-stop : (e : keptIn sheet (s .state) k .number ≡ 0)
           → withTrial sheet s (k .start) (k .trial) (keptIn sheet (s .state) k .next) ≡ trialStop sheet s (k .trial)
       kept-stop e =
-          let keeps = kept-own sheet (k .start) (k .trial) (s .state) (k .next) e in
-          ap (withTrial sheet s (k .start) (k .trial)) (keeps .is)
-          ∙ ap (λ (l : List ℕ). withTrial sheet s l (k .trial) (triedIn sheet l (k .trial) .next)) (sym (keeps .own))
+          let own = kept-own sheet (k .start) (k .trial) (s .state) (k .next) e in
+          ap (withTrial sheet s (k .start) (k .trial)) (own .is)
+          ∙ ap (λ (l : List ℕ). withTrial sheet s l (k .trial) (triedIn sheet l (k .trial) .next)) (sym (own .own))
 
       from : keptIn sheet (s .state) k .number ≡ 0 → k .start ≡ s .state
       from e = sym (kept-own sheet (k .start) (k .trial) (s .state) (k .next) e .own)
@@ -198,22 +181,19 @@ module _ (sheet : List ℕ) (passed : firstOf (sheetRefusals sheet) (sheetOf she
   after-some [] x = x
   after-some (o ∷ list) x = after-some list (after-one x o)
 
-  -- The state's n is the length of the history, and nothing makes a history shorter.
-  counts-pairs : {s : Situation} → Reached s → stateOf (s .state) .pairs ≡ length (s .history)
-  counts-pairs x = holds x .within .n-counted
+  -- The state's n is the length of the history: a state that a longer history led to is another one.
+  moved-on : {s : Situation} → Reached s → (more : List Operation) → MovedOn sheet s more
+  moved-on {s} x more longer k own e =
+      let later = after-some more x in
+      let same : s .state ≡ afterAll sheet s more .state = sym own ∙ from later k e in
+      omega (arith, holds x .within .n-counted, holds later .within .n-counted, ap (λ (l : List ℕ). stateOf l .pairs) same, longer)
 
   module _ {s : Situation} (x : Reached s) (k : Keeping) where
-    -- So the state that a kept trial started from doesn't come back.
-    once : keptIn sheet (s .state) k .number ≡ 0 → (between : List Operation)
-        → keptIn sheet (afterAll sheet (afterKeeping sheet s k) between .state) k .number ≡ 0 → ⊥
-    once e between again =
-        let kept = keeping-reached x k in
-        let later = after-some between kept in
-        let same : s .state ≡ afterAll sheet (afterKeeping sheet s k) between .state = sym (from x k e) ∙ from later k again in
-        let grown : length (afterKeeping sheet s k .history) ≡ length (s .history) + 1 =
-        ap (λ (b : Bool). length (cond b (withTrial sheet s (k .start) (k .trial) (keptIn sheet (s .state) k .next)) s .history)) (eq-eqb _ 0 e)
-        ∙ length-append (s .history) (pairOf (k .trial .pair) ∷ []) in
-        omega (arith, counts-pairs x, counts-pairs later, ap (λ (l : List ℕ). stateOf l .pairs) same, grown, history-grows sheet (afterKeeping sheet s k) between)
+    as-single : keptIn sheet (s .state) k .number ≡ 0 → afterKeeping sheet s k ≡ afterCall sheet s (asSingle (k .trial))
+    unfolding trialLeaves
+    as-single e =
+        ap (λ (b : Bool). cond b (withTrial sheet s (k .start) (k .trial) (keptIn sheet (s .state) k .next)) s) (eq-eqb _ 0 e)
+        ∙ kept-stop x k e ∙ sym (single-leads sheet s (k .trial .pair) (k .trial .row) (k .trial .next) (here x k e))
 
     at-keeping : AtKeeping sheet sound s k
     at-keeping =
@@ -222,10 +202,10 @@ module _ (sheet : List ℕ) (passed : firstOf (sheetRefusals sheet) (sheetOf she
           behind = holds (keeping-reached x k);
           from = from x k;
           accepted = accepted x k;
-          hands = λ e. kept-own sheet (k .start) (k .trial) (s .state) (k .next) e .is;
+          as-single = as-single;
+          kept-back = keeping-answered sheet (k .start) (k .trial) (s .state) (k .next) .kept-back;
           marked = λ e. subst (λ (l : List ℕ). (rowIn (triedIn sheet l (k .trial)) .yielded ≡ true) ↔ PassesLimit h sound (stateOf (s .state)) (pairOf (k .trial .pair)))
               (sym (from x k e)) (at-trial x (k .trial) .marked (here x k e));
-          once = once;
         }
 
   at-operation : {s : Situation} → Reached s → (o : Operation) → AtOperation sheet sound s o
@@ -254,9 +234,19 @@ unused-made sheet {first} e =
     (goes-on (sheetRefusals sheet) [] made (sheetOf sheet) e, cc)
 
 -- Demand 3: for every sheet and the unused rod made from it, whatever calls, trials and keepings follow.
-pub all-within : (sheet first : List ℕ) → unusedAnswer sheet ≡ passes first
-    → (sound : SheetSound (sheetOf sheet)) × ((list : List Operation) → AtEveryStop sheet sound (begins first) list)
+pub record AllWithin (sheet first : List ℕ) (sound : SheetSound (sheetOf sheet)) : Type 0 where
+  pub lists : (list : List Operation) → AtEveryStop sheet sound (begins first) list
+  pub moved-on : (list more : List Operation) → MovedOn sheet (afterAll sheet (begins first) list) more
+
+pub all-within : (sheet first : List ℕ) → unusedAnswer sheet ≡ passes first → (sound : SheetSound (sheetOf sheet)) × AllWithin sheet first sound
 all-within sheet first made =
     let (passed, is) = unused-made sheet made in
     let sound = passed-sound sheet passed .1 in
-    (sound, λ list. subst (λ (l : List ℕ). AtEveryStop sheet sound (begins l) list) (sym is) (at-every-stop sheet passed sound list (begins (stateBytes (unusedOf (sheetOf sheet)))) (begins-reached sheet passed sound)))
+    let begun = begins-reached sheet passed sound in (
+      sound,
+      subst (λ (l : List ℕ). AllWithin sheet l sound) (sym is)
+          (record {
+            lists = λ list. at-every-stop sheet passed sound list (begins (stateBytes (unusedOf (sheetOf sheet)))) begun;
+            moved-on = λ list more. moved-on sheet passed sound (after-some sheet passed sound list begun) more;
+          }),
+    )

@@ -107,11 +107,13 @@ module _ (sheet : List ℕ) where
 -- Demand 3 whole.
 pub within-from : (sheet first : List ℕ) → unusedAnswer sheet ≡ passes first → (sound : SheetSound (sheetOf sheet)) × WithinFrom sheet sound first
 within-from sheet first made =
-    let (sound, within) = all-within sheet first made in
+    let (sound, all) = all-within sheet first made in
+    let within = all .lists in
     let passed = unused-made sheet made .0 in (
       sound,
       record {
         lists = within;
+        moved-on = all .moved-on;
         sections = λ members are changes. at-every-section sheet sound first within passed members (sectionBegins members) changes (begin-like sheet sound first within passed members are);
       },
     )

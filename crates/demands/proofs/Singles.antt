@@ -1,23 +1,18 @@
 -- A single pair that is accepted (SPEC 9.6, 11.3, 11.4): it is one pair, and leads to its state with its own pair and row.
 use Prim.Native.Nat.{ℕ, _+_, _/_}
-use mathlib.Core.Path.{_≡_, sym, ap, _∙_}
+use mathlib.Core.Path.{_≡_, ap, _∙_}
 use mathlib.Core.List.{List, [], _∷_, _++_, map}
-use mathlib.Core.Logic.{_⊎_, inl, inr}
 use native.Mathlib.Omega.{arith}
 use borrow.Author.Tests.{eqb-true, not-false, eq-eqb}
 use lib.Dec.{eqb}
 use lib.ListN.{length}
 use lib.Seq.{take-all}
-use Rattle.refusals.specs.Table.{NoneApplies, Given}
-use Rattle.refusals.proofs.FirstLaws.{decides}
 use Rattle.pair.specs.Pairs.{pairOf, pairLength}
 use Rattle.row.specs.Rows.{rowOf, rowLength}
 use Rattle.state.specs.States.{stateLength}
-use Rattle.judge.specs.Standing.{standingRefusals}
-use Rattle.tie_rod.specs.Calls.{Call, call, single, pieces, pieceAt, countIn, lengthRefusals, callRefusals, Left, callLeaves}
+use Rattle.tie_rod.specs.Calls.{Call, call, single, pieces, pieceAt, countIn, lengthRefusals, Left, callLeaves}
 use Rattle.tie_rod.proofs.Numbers.{accepted-whole}
 use Rattle.demands.specs.Lists.{Situation, acceptedBy, acceptedIn, stateAfter, rowIn, afterCall}
-use Rattle.demands.proofs.Demand1.{when-standing, standing-number, when-call, call-number}
 
 -- The bytes of one pair are that pair.
 pub lone-pieces : (bytes : List ℕ) → length bytes ≡ pairLength → pieces pairLength 1 bytes ≡ bytes ∷ []
@@ -29,26 +24,10 @@ module _ (sheet state pair rows next : List ℕ) where
   c = call single pair rows next
 
   module _ (none : callLeaves sheet state c .reply .number ≡ 0) where
-    pub single-standing : NoneApplies (standingRefusals sheet state)
-    single-standing = by-table (decides (standingRefusals sheet state))
-      where
-        by-table : ((n : ℕ) × Given (standingRefusals sheet state) n) ⊎ NoneApplies (standingRefusals sheet state) → NoneApplies (standingRefusals sheet state)
-        by-table (inl (n, g)) =
-            absurd (standing-number sheet state c g (sym (ap (λ (l : Left). l .reply .number) (when-standing sheet state c g)) ∙ none))
-        by-table (inr is) = is
-
-    single-own : NoneApplies (callRefusals c)
-    single-own = by-table (decides (callRefusals c))
-      where
-        by-table : ((n : ℕ) × Given (callRefusals c) n) ⊎ NoneApplies (callRefusals c) → NoneApplies (callRefusals c)
-        by-table (inl (n, g)) =
-            absurd (call-number sheet state c g (sym (ap (λ (l : Left). l .reply .number) (when-call sheet state c single-standing g)) ∙ none))
-        by-table (inr is) = is
-
     -- The list is as long as a pair,
-    pub single-long : length pair ≡ pairLength
+    single-long : length pair ≡ pairLength
     unfolding lengthRefusals
-    single-long = eqb-true (length pair) pairLength (not-false (eqb (length pair) pairLength) (single-own .0))
+    single-long = eqb-true (length pair) pairLength (not-false (eqb (length pair) pairLength) (accepted-whole sheet state c none .own .0))
 
     -- its first piece is the whole of it,
     pub single-pair : pieceAt pairLength 0 pair ≡ pair

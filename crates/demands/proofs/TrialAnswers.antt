@@ -17,23 +17,73 @@ use Rattle.trial.proofs.TrialLaws.{same-are, are-same, not-same, differ-not, tr
 use Rattle.demands.specs.Lists.{triedIn}
 use Rattle.demands.specs.Trials.{TrialAnswered, KeepingReason, KeepingAnswered, AnythingOffered}
 
+-- ---- Any bytes
+
+module _ (trial offered next : List ℕ) where
+  abbrev table : List Refusal
+  table = keepRefusals trial offered (length next)
+
+  abbrev Some : ℕ → Type 0
+  Some n = n ≡ 0 → ⊥
+
+  some-number : {n : ℕ} → firstOf table (nextIn trial) ≡ refused n → Some n
+  unfolding keepRefusals
+  some-number e = answer-number Some table (nextIn trial) ((λ z. omega (arith, z)), ((λ z. omega (arith, z)), tt)) e
+
+  is-passed : {new : List ℕ} → firstOf table (nextIn trial) ≡ passes new → keepLeaves trial offered next ≡ kept 0 (nextIn trial)
+  is-passed e = keep-handed trial offered next (passes-anyhow table (nextIn trial) (nextIn trial) e)
+
+  order : numbersOf table ≡ 12 ∷ 15 ∷ []
+  unfolding keepRefusals
+  order = refl
+
+  pub anything-offered : AnythingOffered trial offered next
+  anything-offered =
+      record {
+        order = order;
+        exactly = λ number. ((λ is. by-answer number is (firstOf table (nextIn trial)) refl), back number);
+        kept-back = λ ne. unwritten ne (firstOf table (nextIn trial)) refl;
+        hands = λ e. handed e (firstOf table (nextIn trial)) refl;
+      }
+    where
+      by-answer : (number : ℕ) → keepLeaves trial offered next .number ≡ number → (a : Answer (List ℕ)) → firstOf table (nextIn trial) ≡ a
+          → Given table number ⊎ (NoneApplies table × (number ≡ 0))
+      by-answer number is (refused n) e =
+          inl (subst (Given table) (sym (ap (λ (k : Kept). k .number) (keep-left trial offered next e)) ∙ is) (refused-given table (nextIn trial) e))
+      by-answer number is (passes new) e =
+          inr (passes-none-applies table (nextIn trial) e, sym is ∙ ap (λ (k : Kept). k .number) (is-passed e))
+
+      back : (number : ℕ) → Given table number ⊎ (NoneApplies table × (number ≡ 0)) → keepLeaves trial offered next .number ≡ number
+      back number (inl g) = ap (λ (k : Kept). k .number) (keep-left trial offered next (given-refused table (nextIn trial) g))
+      back number (inr (none, is)) = ap (λ (k : Kept). k .number) (is-passed (none-passes table (nextIn trial) none)) ∙ sym is
+
+      unwritten : (keepLeaves trial offered next .number ≡ 0 → ⊥) → (a : Answer (List ℕ)) → firstOf table (nextIn trial) ≡ a → keepLeaves trial offered next .next ≡ next
+      unwritten ne (refused n) e = ap (λ (k : Kept). k .next) (keep-left trial offered next e)
+      unwritten ne (passes new) e = absurd (ne (ap (λ (k : Kept). k .number) (is-passed e)))
+
+      handed : keepLeaves trial offered next .number ≡ 0 → (a : Answer (List ℕ)) → firstOf table (nextIn trial) ≡ a → keepLeaves trial offered next .next ≡ nextIn trial
+      handed none (refused n) e = absurd (some-number e (sym (ap (λ (k : Kept). k .number) (keep-left trial offered next e)) ∙ none))
+      handed none (passes new) e = ap (λ (k : Kept). k .next) (is-passed e)
+
+-- ---- A trial that was made
+
 module _ (sheet start : List ℕ) (t : Trial) where
   pub trial-answered : TrialAnswered sheet start t
   trial-answered = record { as-single = trial-single sheet start t; long = made-long sheet start t }
 
   module _ (offered next : List ℕ) where
     abbrev leaves : Kept
-    leaves = keepLeaves (trialLeaves sheet start t .trial) offered next
+    leaves = keepLeaves (trialLeaves sheet start t .bytes) offered next
 
     abbrev tried : ℕ
     tried = triedIn sheet start t .reply .number
 
     -- A buffer of another length is turned away first,
     no-room : (length next ≡ stateLength → ⊥) → leaves ≡ kept 12 next
-    no-room other = keep-left (trialLeaves sheet start t .trial) offered next (keep-stops (trialLeaves sheet start t .trial) offered (length next) other)
+    no-room other = keep-left (trialLeaves sheet start t .bytes) offered next (keep-stops (trialLeaves sheet start t .bytes) offered (length next) other)
 
     -- then an accepted trial is kept from its own start,
-    pub keeps-own : length next ≡ stateLength → offered ≡ start → tried ≡ 0 → leaves ≡ kept 0 (triedIn sheet start t .next)
+    keeps-own : length next ≡ stateLength → offered ≡ start → tried ≡ 0 → leaves ≡ kept 0 (triedIn sheet start t .next)
     keeps-own long own none =
         let same : sameBytes offered start ≡ true = subst (λ (l : List ℕ). sameBytes l start ≡ true) (sym own) (are-same start) in
         keep-made sheet start t offered next long ∙ rw (eq-eqb tried 0 none, same)
@@ -92,52 +142,5 @@ module _ (sheet start : List ℕ) (t : Trial) where
         record {
           exactly = λ number. ((λ is. subst (KeepingReason sheet start t offered next) is own-reason), only-reason number);
           hands = λ e. kept-own e .is;
+          kept-back = anything-offered (trialLeaves sheet start t .bytes) offered next .kept-back;
         }
-
--- ---- Any bytes
-
-module _ (trial offered next : List ℕ) where
-  abbrev table : List Refusal
-  table = keepRefusals trial offered (length next)
-
-  abbrev Some : ℕ → Type 0
-  Some n = n ≡ 0 → ⊥
-
-  some-number : {n : ℕ} → firstOf table (nextIn trial) ≡ refused n → Some n
-  unfolding keepRefusals
-  some-number e = answer-number Some table (nextIn trial) ((λ z. omega (arith, z)), ((λ z. omega (arith, z)), tt)) e
-
-  is-passed : {new : List ℕ} → firstOf table (nextIn trial) ≡ passes new → keepLeaves trial offered next ≡ kept 0 (nextIn trial)
-  is-passed e = keep-handed trial offered next (passes-anyhow table (nextIn trial) (nextIn trial) e)
-
-  order : numbersOf table ≡ 12 ∷ 15 ∷ []
-  unfolding keepRefusals
-  order = refl
-
-  pub anything-offered : AnythingOffered trial offered next
-  anything-offered =
-      record {
-        order = order;
-        exactly = λ number. ((λ is. by-answer number is (firstOf table (nextIn trial)) refl), back number);
-        turned-away = λ ne. kept-back ne (firstOf table (nextIn trial)) refl;
-        hands = λ e. handed e (firstOf table (nextIn trial)) refl;
-      }
-    where
-      by-answer : (number : ℕ) → keepLeaves trial offered next .number ≡ number → (a : Answer (List ℕ)) → firstOf table (nextIn trial) ≡ a
-          → Given table number ⊎ (NoneApplies table × (number ≡ 0))
-      by-answer number is (refused n) e =
-          inl (subst (Given table) (sym (ap (λ (k : Kept). k .number) (keep-left trial offered next e)) ∙ is) (refused-given table (nextIn trial) e))
-      by-answer number is (passes new) e =
-          inr (passes-none-applies table (nextIn trial) e, sym is ∙ ap (λ (k : Kept). k .number) (is-passed e))
-
-      back : (number : ℕ) → Given table number ⊎ (NoneApplies table × (number ≡ 0)) → keepLeaves trial offered next .number ≡ number
-      back number (inl g) = ap (λ (k : Kept). k .number) (keep-left trial offered next (given-refused table (nextIn trial) g))
-      back number (inr (none, is)) = ap (λ (k : Kept). k .number) (is-passed (none-passes table (nextIn trial) none)) ∙ sym is
-
-      kept-back : (keepLeaves trial offered next .number ≡ 0 → ⊥) → (a : Answer (List ℕ)) → firstOf table (nextIn trial) ≡ a → keepLeaves trial offered next .next ≡ next
-      kept-back ne (refused n) e = ap (λ (k : Kept). k .next) (keep-left trial offered next e)
-      kept-back ne (passes new) e = absurd (ne (ap (λ (k : Kept). k .number) (is-passed e)))
-
-      handed : keepLeaves trial offered next .number ≡ 0 → (a : Answer (List ℕ)) → firstOf table (nextIn trial) ≡ a → keepLeaves trial offered next .next ≡ nextIn trial
-      handed none (refused n) e = absurd (some-number e (sym (ap (λ (k : Kept). k .number) (keep-left trial offered next e)) ∙ none))
-      handed none (passes new) e = ap (λ (k : Kept). k .next) (is-passed e)

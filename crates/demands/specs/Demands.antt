@@ -1,4 +1,4 @@
--- What demands 1 and 2 claim of calls on bytes (SPEC 9.11 to 9.13): the single pair, the run, the trial and its keeping, the forecast and
+-- What demands 1 and 2 claim of calls on bytes (SPEC 9.11 to 9.13, 16.9): the single pair, the run, the trial and its keeping, the forecast and
 -- the unused rod, on any bytes of any lengths; cited by proofs/Demands. Definitions only, over what a call leaves and never over the
 -- program; nothing is assumed. What demand 1 claims of trials, keepings and sections is in Trials and Sections; demand 3, over lists, is
 -- AtEveryStop in Lists and WithinFrom in Sections.
@@ -190,7 +190,7 @@ pub record SolvedFrom (sheet state : List ℕ) (sound : SheetSound (sheetOf shee
   pub calls : (c : Call) → EachSolved sheet sound state c
   -- SPEC 16.9: an accepted trial, and what a keeping of it hands on
   pub trials : (t : Trial) → triedIn sheet state t .reply .number ≡ 0 → TrialSolved sheet sound state t (triedIn sheet state t .next)
-  pub keepings : (t : Trial) (offered next : List ℕ) → let kept = keepLeaves (trialLeaves sheet state t .trial) offered next in
+  pub keepings : (t : Trial) (offered next : List ℕ) → let kept = keepLeaves (trialLeaves sheet state t .bytes) offered next in
       kept .number ≡ 0 → TrialSolved sheet sound state t (kept .next)
   pub range : (pair : List ℕ) → RangeDecided (sheetOf sheet) sound (stateOf state) pair
   -- An unused rod has no plastic strain (SPEC 5.6).

@@ -21,9 +21,9 @@ use Rattle.carry.specs.Walk.{yieldedRows}
 use Rattle.accuracy.specs.Within.{PassesLimit, AtStop}
 use Rattle.judge.specs.Standing.{standingRefusals}
 use Rattle.tie_rod.specs.Calls.{Call, call, run, pieces, pieceAt, countIn, Left, callLeaves}
-use Rattle.trial.specs.Trials.{Trial, trialLeaves, Kept, keepLeaves}
+use Rattle.trial.specs.Trials.{Trial, asSingle, trialLeaves, Kept, keepLeaves}
 
--- SPEC 11.14: a keeping in a list: of a trial, which any state may have been given, and with what its lent buffer holds before it.
+-- SPEC 11.14: a keeping in a list: of a trial that may have been given any state, and with what its lent buffer holds before it.
 pub record Keeping : Type 0 where
   pub start : List ℕ
   pub trial : Trial
@@ -88,13 +88,13 @@ module _ (sheet : List ℕ) where
   abbrev pub afterCall : Situation → Call → Situation
   afterCall s c = added s c (acceptedIn (s .state) c) (stateAfter (s .state) c)
 
-  -- SPEC 11.14: what a trial that is given this state leaves, and its number,
+  -- SPEC 16.2: the answer and the two buffers of a trial that is given this state,
   abbrev pub triedIn : (state : List ℕ) → Trial → Left
   triedIn state t = trialLeaves sheet state t .left
 
-  -- and what a keeping leaves that is offered this state. Its trial is one that was made on the list's own sheet.
+  -- and SPEC 11.14: what a keeping leaves that is offered this state. Its trial is one that was made on the list's own sheet.
   abbrev pub keptIn : (state : List ℕ) → Keeping → Kept
-  keptIn state k = keepLeaves (trialLeaves sheet (k .start) (k .trial) .trial) state (k .next)
+  keptIn state k = keepLeaves (trialLeaves sheet (k .start) (k .trial) .bytes) state (k .next)
 
   -- SPEC 11.4: a situation with one pair more: that of a trial from some start, with the row that the trial wrote, and this state.
   abbrev pub withTrial : Situation → (start : List ℕ) → Trial → (state : List ℕ) → Situation
@@ -122,6 +122,12 @@ module _ (sheet : List ℕ) where
 
   -- ---- The claim. `sound` says that the sheet passes.
 
+  -- SPEC 11.16: behind some operations that made the history longer, no trial that had started from the state before them is kept.
+  abbrev pub MovedOn : Situation → List Operation → Type 0
+  MovedOn s more =
+      length (s .history) < length (afterAll s more .history) → (k : Keeping) → k .start ≡ s .state
+      → keptIn (afterAll s more .state) k .number ≡ 0 → ⊥
+
   module _ (sound : SheetSound (sheetOf sheet)) where
     -- SPEC 11.8, 11.9: what holds at a stop: all lies within k grains of the bar that is fed the history, the counts are true, and the
     -- state passes 1 to 6 and 13 with the sheet.
@@ -136,15 +142,14 @@ module _ (sheet : List ℕ) where
       pub stops : (j : ℕ) → j ≤ acceptedIn (s .state) c → Holds (stopIn s c j)
       pub starts : stateIn (s .state) c 0 ≡ s .state
       pub ends : stateIn (s .state) c (acceptedIn (s .state) c) ≡ stateAfter (s .state) c
-      -- SPEC 11.11: a row says that the rod yielded exactly where the trial, from the state stored before its pair, passes a limit
+      -- SPEC 11.11: a row says that the rod yielded exactly where the trial stress, from the state stored before its pair, passes a limit
       pub marked : (j : ℕ) → j < acceptedIn (s .state) c
           → (rowOf (pieceAt rowLength j (callLeaves sheet (s .state) c .rows)) .yielded ≡ true)
           ↔ PassesLimit (sheetOf sheet) sound (stateOf (stateIn (s .state) c j)) (pairOf (pieceAt pairLength j (c .pairs)))
 
-    -- SPEC 11.15, of a trial: it meets none of 1 to 6 and 13, and nothing has moved. Where it is accepted, its row and its next state lie
-    -- within k and its own yielded bit of the bar that is fed its pair too, and the row is marked as any other.
+    -- SPEC 11.15, of a trial: nothing has moved by it. Where it is accepted, its row and its next state lie within k and its own yielded bit
+    -- of the bar that is fed its pair too, and the row is marked as any other.
     pub record AtTrial (s : Situation) (t : Trial) : Type 0 where
-      pub standing : NoneApplies (standingRefusals sheet (s .state))
       pub stop : Holds (after s (tries t))
       pub tried : triedIn (s .state) t .reply .number ≡ 0 → Holds (trialStop s t)
       pub counted : yieldedRows (trialStop s t .rows) ≡ yieldedRows (s .rows) + flag (rowIn (triedIn (s .state) t) .yielded)
@@ -152,17 +157,16 @@ module _ (sheet : List ℕ) where
           → (rowIn (triedIn (s .state) t) .yielded ≡ true) ↔ PassesLimit (sheetOf sheet) sound (stateOf (s .state)) (pairOf (t .pair))
 
     -- SPEC 11.16, of a keeping: all holds before it and behind it. Where it has number 0, its trial was given the list's state and was
-    -- accepted, and it hands that trial's next state on; behind it no keeping of that trial has number 0 again.
+    -- accepted, and the list is where the single pair of that trial leads; else its buffer is as it was.
     pub record AtKeeping (s : Situation) (k : Keeping) : Type 0 where
       pub before : Holds s
       pub behind : Holds (after s (keeps k))
       pub from : keptIn (s .state) k .number ≡ 0 → k .start ≡ s .state
       pub accepted : keptIn (s .state) k .number ≡ 0 → triedIn (k .start) (k .trial) .reply .number ≡ 0
-      pub hands : keptIn (s .state) k .number ≡ 0 → keptIn (s .state) k .next ≡ triedIn (k .start) (k .trial) .next
+      pub as-single : keptIn (s .state) k .number ≡ 0 → after s (keeps k) ≡ afterCall s (asSingle (k .trial))
+      pub kept-back : (keptIn (s .state) k .number ≡ 0 → ⊥) → keptIn (s .state) k .next ≡ k .next
       pub marked : keptIn (s .state) k .number ≡ 0
           → (rowIn (triedIn (k .start) (k .trial)) .yielded ≡ true) ↔ PassesLimit (sheetOf sheet) sound (stateOf (s .state)) (pairOf (k .trial .pair))
-      pub once : keptIn (s .state) k .number ≡ 0 → (between : List Operation)
-          → keptIn (afterAll (after s (keeps k)) between .state) k .number ≡ 0 → ⊥
 
     -- SPEC 11.8, 11.15, 11.16, of one operation,
     abbrev pub AtOperation : Situation → Operation → Type 0

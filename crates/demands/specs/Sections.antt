@@ -19,7 +19,7 @@ use Rattle.section.specs.declared.Member.{Member}
 use Rattle.section.specs.declared.Change.{Change}
 use Rattle.section.specs.Sections.{memberPair, memberTable, sectionRefusals, forceOf, momentOf, mostForce, mostMoment, sum, turnedAway, sectionLeaves}
 use Rattle.tie_rod.specs.Calls.{Call, call, single, callLeaves}
-use Rattle.demands.specs.Lists.{Operation, carries, begins, afterAll, Holds, AtEveryStop}
+use Rattle.demands.specs.Lists.{Operation, carries, begins, afterAll, Holds, AtEveryStop, MovedOn}
 
 -- ---- Demand 1 for a section
 
@@ -150,5 +150,7 @@ module _ (sheet : List ℕ) where
     -- SPEC 11.8, 15.11: demand 3 whole: lists of a rod that begins unused, and lists of section calls whose members do.
     pub record WithinFrom : Type 0 where
       pub lists : (list : List Operation) → AtEveryStop sheet sound (begins unused) list
+      -- SPEC 11.16: as soon as the rod has moved on, no trial from before can be kept
+      pub moved-on : (list more : List Operation) → MovedOn sheet (afterAll sheet (begins unused) list) more
       pub sections : (members : List Member) → Each (λ (m : Member). m .state ≡ unused) members
           → (changes : List Change) → AtEverySection members (sectionBegins members) changes

@@ -1,5 +1,5 @@
--- What demand 1 claims of trials and keepings (SPEC 16.7, 16.8), over the trial that was made and never over its bytes; cited by Demands.
--- Definitions only, over what they leave and never over the program; nothing is assumed.
+-- What demand 1 claims of trials and keepings (SPEC 16.7, 16.8), cited by Demands; of a keeping's reasons it speaks over the trial that was
+-- made and not over its bytes. Definitions only, over what they leave and never over the program; nothing is assumed.
 use Prim.Native.Nat.{ℕ}
 use mathlib.Core.Path.{_≡_}
 use mathlib.Core.List.{List, [], _∷_}
@@ -11,11 +11,11 @@ use Rattle.tie_rod.specs.Calls.{callLeaves}
 use Rattle.trial.specs.Trials.{Trial, asSingle, trialLength, trialLeaves, nextIn, keepRefusals, keepLeaves}
 use Rattle.demands.specs.Lists.{triedIn}
 
--- SPEC 16.7: a trial answers, and leaves row and next state, as the single pair on the same bytes and buffers does, of which CallAnswered
--- speaks; the bytes for a keeping are all written.
+-- SPEC 16.7: a trial answers, and leaves row and next state, as the single pair on the same bytes and buffers does, by its definition, so
+-- that CallAnswered speaks of it; and the bytes for a keeping are as many as its layout has, whatever the answer.
 pub record TrialAnswered (sheet state : List ℕ) (t : Trial) : Type 0 where
   pub as-single : triedIn sheet state t ≡ callLeaves sheet state (asSingle t)
-  pub long : length (trialLeaves sheet state t .trial) ≡ trialLength
+  pub long : length (trialLeaves sheet state t .bytes) ≡ trialLength
 
 -- SPEC 16.7: why a keeping of a trial that started from `start` has its number.
 module _ (sheet start : List ℕ) (t : Trial) (offered next : List ℕ) where
@@ -41,16 +41,19 @@ module _ (sheet start : List ℕ) (t : Trial) (offered next : List ℕ) where
   abbrev pub KeepingReason : (number : ℕ) → Type 0
   KeepingReason number = ByBuffer number ⊎ (ByTrial number ⊎ ByItsOwn number)
 
--- SPEC 16.7: a keeping of a trial has a number exactly where there is a reason for it, and hands the trial's next state on where that is 0.
+-- SPEC 16.7: a keeping of a trial has a number exactly where there is a reason for it, hands the trial's next state on where that is 0, and
+-- else writes nothing.
 pub record KeepingAnswered (sheet start : List ℕ) (t : Trial) (offered next : List ℕ) : Type 0 where
-  pub exactly : (number : ℕ) → (keepLeaves (trialLeaves sheet start t .trial) offered next .number ≡ number) ↔ KeepingReason sheet start t offered next number
-  pub hands : keepLeaves (trialLeaves sheet start t .trial) offered next .number ≡ 0
-      → keepLeaves (trialLeaves sheet start t .trial) offered next .next ≡ triedIn sheet start t .next
+  pub exactly : (number : ℕ) → (keepLeaves (trialLeaves sheet start t .bytes) offered next .number ≡ number) ↔ KeepingReason sheet start t offered next number
+  pub hands : keepLeaves (trialLeaves sheet start t .bytes) offered next .number ≡ 0
+      → keepLeaves (trialLeaves sheet start t .bytes) offered next .next ≡ triedIn sheet start t .next
+  pub kept-back : (keepLeaves (trialLeaves sheet start t .bytes) offered next .number ≡ 0 → ⊥)
+      → keepLeaves (trialLeaves sheet start t .bytes) offered next .next ≡ next
 
--- SPEC 16.8: a keeping of any bytes, whoever wrote them: 12 and then 15, with no byte written, or the last part of those bytes.
+-- SPEC 16.8: a keeping of any bytes, whoever wrote them: 12 and then 15, with no byte written, or the next state that stands in them.
 pub record AnythingOffered (trial offered next : List ℕ) : Type 0 where
   pub order : numbersOf (keepRefusals trial offered (length next)) ≡ 12 ∷ 15 ∷ []
   pub exactly : (number : ℕ) → (keepLeaves trial offered next .number ≡ number)
       ↔ (Given (keepRefusals trial offered (length next)) number ⊎ (NoneApplies (keepRefusals trial offered (length next)) × (number ≡ 0)))
-  pub turned-away : (keepLeaves trial offered next .number ≡ 0 → ⊥) → keepLeaves trial offered next .next ≡ next
   pub hands : keepLeaves trial offered next .number ≡ 0 → keepLeaves trial offered next .next ≡ nextIn trial
+  pub kept-back : (keepLeaves trial offered next .number ≡ 0 → ⊥) → keepLeaves trial offered next .next ≡ next

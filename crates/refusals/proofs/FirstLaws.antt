@@ -5,7 +5,8 @@ use mathlib.Core.Bool.{Bool, true, false, _&&_, _||_, false≢true, cond}
 use mathlib.Core.List.{List, [], _∷_, _++_, append-nil}
 use mathlib.Core.Logic.{inl, inr}
 use native.Mathlib.Omega.{arith}
-use Rattle.refusals.specs.Table.{Refusal, refusal, Answer, passes, refused, firstOf, NoneApplies, Given, Decided, Follows}
+use borrow.Author.Tests.{eq-eqb, ne-eqb}
+use Rattle.refusals.specs.Table.{Refusal, refusal, Answer, passes, refused, numbered, firstOf, NoneApplies, Given, Decided, Follows}
 
 pub refused-is-not-passes : {A : Type 0} (n : ℕ) (x : A) → refused n ≡ passes x → ⊥
 refused-is-not-passes n x e = let z : _≡_ {A = ℕ} 0 1 = cc in omega arith
@@ -15,6 +16,14 @@ same-refused m n e = cc
 
 pub same-passes : {A : Type 0} (x y : A) → passes x ≡ passes y → x ≡ y
 same-passes x y e = cc
+
+-- What a number says.
+module _ {A : Type 0} (n : ℕ) (value : A) {answer : Answer A} (is : numbered n value ≡ answer) where
+  pub number-refused : (n ≡ 0 → ⊥) → answer ≡ refused n
+  number-refused ne = sym is ∙ rw (ne-eqb n 0 ne)
+
+  pub number-passes : n ≡ 0 → answer ≡ passes value
+  number-passes e = sym is ∙ rw (eq-eqb n 0 e)
 
 -- Where a value passes, no line of the table applies, and the value is the one given.
 pub passes-line : {A : Type 0} (n : ℕ) (t : Bool) (rest : List Refusal) (v : A) {x : A} → firstOf (refusal n t ∷ rest) v ≡ passes x

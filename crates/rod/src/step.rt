@@ -88,7 +88,7 @@ fn leaves_range(rod: Rod, response: Response) -> bool
 
 impl Rod {
     // The trial stress of a pair (SPEC 5.3).
-    fn trial(self, sheet: Sheet, pair: Pair, thermals: ThermalStrains) -> Grain
+    fn trial_stress(self, sheet: Sheet, pair: Pair, thermals: ThermalStrains) -> Grain
         requires { ⌜ Accepted sheet self × PairAccepted pair ⌝ }
         requires thermals { ⌜ thermals ≡ thermalStrainsOf sheet self pair ⌝ }
         ensures { λ r. ⌜ r ≡ grain (trialOf sheet self pair) ⌝ }
@@ -167,7 +167,7 @@ impl Rod {
             .at_most(Nano(ranges::MOST_STRAIN).magnitude()) {
             return Stepped::StrainLeaves;
         }
-        let trial = self.trial(sheet, pair, thermals);
+        let trial = self.trial_stress(sheet, pair, thermals);
         if both_passed(self, sheet, limits, trial) {
             return Stepped::BothFlow;
         }

@@ -1,6 +1,6 @@
 -- One member of a section (SPEC 15.2 to 15.5): what its ranges say, how great its force and moment can be, and what its lines answer.
 use Prim.Native.Nat.{ℕ, _*_, _/_, _^_, _≤_}
-use mathlib.Core.Path.{_≡_, refl, sym, ap, _∙_}
+use mathlib.Core.Path.{_≡_, refl, _∙_}
 use mathlib.Core.Bool.{true, false, not, _&&_}
 use mathlib.Core.List.{[], _∷_}
 use borrow.Author.Tests.{leb-true, not-false}
@@ -8,8 +8,8 @@ use native.Mathlib.Nat.{mul-le-mul}
 use native.Mathlib.Omega.{arith}
 use lib.Dec.{leb}
 use lib.IntN.{ℤ, pos, natAbs}
-use Rattle.refusals.specs.Table.{Answer, passes, refused, refusal, firstOf}
-use Rattle.refusals.proofs.FirstLaws.{both-hold, stops-first, goes-on, both-pass, passes-line, same-passes, same-refused, refused-is-not-passes}
+use Rattle.refusals.specs.Table.{passes, refused, refusal, firstOf}
+use Rattle.refusals.proofs.FirstLaws.{both-hold, stops-first, goes-on, both-pass, passes-line}
 use Rattle.ranges.specs.Ranges.{around, grains, mostStress, mostArea, mostOffset, mostCurvature}
 use Rattle.ranges.proofs.RangeMagnitudes.{around-magnitude}
 use Rattle.units.specs.Signs.{isNeg}
@@ -22,7 +22,7 @@ use Rattle.rod.specs.declared.Rod.{Rod}
 use Rattle.rod.specs.declared.step.Advance.{Advance}
 use Rattle.rod.specs.Steps.{advanceOf, stepRefusals}
 use Rattle.rod.specs.Against.{belongs, againstRefusals}
-use Rattle.rod.specs.Accepted.{Accepted, PairAccepted}
+use Rattle.rod.specs.Accepted.{PairAccepted}
 use Rattle.rod.proofs.RangeFacts.{ranged}
 use Rattle.state.specs.States.{stateRefusals, stateOf}
 use Rattle.state.specs.Passing.{StatePasses}
@@ -33,7 +33,7 @@ use Rattle.judge.proofs.JudgeLaws.{read-stands}
 use Rattle.section.specs.declared.Member.{Member}
 use Rattle.section.specs.declared.Change.{Change}
 use Rattle.section.specs.Sections.{memberRight, memberPair, memberTable, memberAnswer, cutStress, forceOf, momentOf, mostForce, mostMoment}
-use Rattle.section.specs.Tallies.{ChangeRight, rodOf}
+use Rattle.section.specs.Tallies.{ChangeRight}
 
 -- ---- Ranges
 
@@ -122,12 +122,3 @@ module _ (h : Sheet) (c : Change) (m : Member) where
 
   pub next-stress-most : {a : Advance} → SheetSound h → memberAnswer h c m ≡ passes a → natAbs (a .rod .stress .0) ≤ mostStress
   next-stress-most {a} sound e = ranged (a .rod) (member-passed sound e .next .accepted .in-range) .stress
-
--- What trying a member says of its answer.
-pub rod-moves : (x : Answer Advance) {r : Rod} → passes r ≡ rodOf x → (a : Advance) × ((x ≡ passes a) × (a .rod ≡ r))
-rod-moves (passes a) {r} e = (a, (refl, same-passes (a .rod) r (sym e)))
-rod-moves (refused n) {r} e = absurd (refused-is-not-passes n r (sym e))
-
-pub rod-refused : (x : Answer Advance) {n : ℕ} → refused n ≡ rodOf x → x ≡ refused n
-rod-refused (passes a) {n} e = absurd (refused-is-not-passes n (a .rod) e)
-rod-refused (refused m) {n} e = ap refused (same-refused m n (sym e))

@@ -10,7 +10,6 @@ use Rattle.refusals.specs.Table.{Refusal, refusal, Answer, passes, refused, fir
 use Rattle.ranges.specs.Ranges.{around, mostChange, mostRods, mostCurvature}
 use Rattle.sheet.specs.Sheets.{sheetRefusals, sheetOf}
 use Rattle.sheet.specs.Sound.{SheetSound}
-use Rattle.rod.specs.declared.Rod.{Rod}
 use Rattle.rod.specs.declared.step.Advance.{Advance}
 use Rattle.section.specs.declared.Member.{Member}
 use Rattle.section.specs.declared.Change.{Change}
@@ -18,19 +17,7 @@ use Rattle.section.specs.declared.Movement.{Movement}
 use Rattle.section.specs.declared.Tally.{Tally}
 use Rattle.section.specs.declared.Opening.{Opening}
 use Rattle.section.specs.declared.SectionReply.{SectionReply}
-use Rattle.section.specs.declared.MemberTried.{MemberTried}
-use Rattle.section.specs.declared.MemberTried.the-variants as tried
 use Rattle.section.specs.Sections.{callRight, memberRight, memberAnswer, forceOf, momentOf, withState, mostForce, mostMoment}
-
--- SPEC 8.8: the number, or the rod, that each case of trying a member stands for,
-abbrev pub memberMeaning : MemberTried → Answer Rod
-memberMeaning (tried.Accepted r) = passes r
-memberMeaning (tried.Refused number) = refused number
-
--- and what the member's lines answer, without the row.
-abbrev pub rodOf : Answer Advance → Answer Rod
-rodOf (passes a) = passes (a .rod)
-rodOf (refused number) = refused number
 
 -- SPEC 15.7: a tally without force and moment: a refusal with its place, or, with 0 and 0, where no rod is looked at yet.
 abbrev pub bareTally : (number place : ℕ) → Tally

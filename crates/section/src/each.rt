@@ -1,7 +1,6 @@
 // One rod of a section, by value (SPEC 15.4, 15.5, 15.7): what it adds to the tally, and what it becomes.
 use crate::Change;
 use crate::Member;
-use crate::MemberTried;
 use crate::Movement;
 use crate::Tally;
 use carry::Tried;
@@ -14,8 +13,9 @@ ghost use Prim.Native.Nat.{_≤_};
 ghost use lib.IntN.{natAbs};
 ghost use Rattle.ranges.specs.Ranges.{mostStress};
 ghost use Rattle.state.specs.States.{StateFits};
+ghost use Rattle.carry.specs.Reaching.{triedMeaning, withReached};
 ghost use Rattle.section.specs.Sections.{cutStress, memberAnswer, memberPair, memberRight, withState};
-ghost use Rattle.section.specs.Tallies.{ChangeRight, GoesOn, MovementRight, Room, addedTo, bareTally, memberMeaning, nextOf, rodOf, sectionsOwn, tallyOf};
+ghost use Rattle.section.specs.Tallies.{ChangeRight, GoesOn, MovementRight, Room, addedTo, bareTally, nextOf, sectionsOwn, tallyOf};
 
 // Area and offset are in their ranges.
 fn right(member: Member) -> bool
@@ -43,10 +43,10 @@ fn pair_at(change: Change, member: Member) -> Pair
     }
 }
 
-// Tries a rod as a single pair does (SPEC 15.4): 5 and 6 of its state, 8 of the pair, 9, 11 and 10 of the step. A section has no rows.
-fn tried(movement: Movement, member: Member) -> MemberTried
+// Tries a rod as a single pair does (SPEC 15.4): 5 and 6 of its state, 8 of the pair, 9, 11 and 10 of the step.
+fn tried(movement: Movement, member: Member) -> Tried
     requires { ⌜ MovementRight movement × (memberRight member ≡ true) ⌝ }
-    ensures { λ r. ⌜ memberMeaning r ≡ rodOf (memberAnswer (movement .sheet) (movement .change) member) ⌝ }
+    ensures { λ r. ⌜ triedMeaning r ≡ withReached (movement .sheet) (memberAnswer (movement .sheet) (movement .change) member) ⌝ }
 {
     let sheet = movement.sheet;
     let change = movement.change;
@@ -54,21 +54,14 @@ fn tried(movement: Movement, member: Member) -> MemberTried
     let judged = judge::judge_state(sheet, &state);
     let holder = judged.number;
     if holder != 0 {
-        return MemberTried::Refused(holder);
+        return Tried::Refused(holder);
     }
     let pair = pair_at(change, member);
     if !pair.in_range() {
-        return MemberTried::Refused(8);
+        return Tried::Refused(8);
     }
     let reached = judged.reached;
-    match reached.trial(sheet, pair) {
-        Tried::Accepted(carried) => {
-            let kept = carried.keep();
-            let rod = kept.rod;
-            MemberTried::Accepted(rod)
-        }
-        Tried::Refused(number) => MemberTried::Refused(number),
-    }
+    reached.trial(sheet, pair)
 }
 
 // A stress in whole 10⁻³ MPa, rounded toward zero (SPEC 15.5): the magnitude is divided, and the sign put back.
@@ -135,11 +128,13 @@ pub(crate) fn tally(tally: Tally, member: Member, movement: Movement) -> Tally
         return tally;
     }
     match tried(movement, member) {
-        MemberTried::Accepted(rod) => {
+        Tried::Accepted(carried) => {
+            let to = carried.to;
+            let rod = to.rod;
             let stress = rod.stress;
             added(tally, member, stress)
         }
-        MemberTried::Refused(refusal) => {
+        Tried::Refused(refusal) => {
             let place = tally.seen + 1;
             bare(refusal, place)
         }
@@ -160,7 +155,7 @@ fn with_state(member: Member, rod: Rod) -> Member
     }
 }
 
-// A member after a call. One that is refused stays; `settle` doesn't come here then.
+// A member after a call: its trial is kept and stored. One that is refused stays; `settle` doesn't come here then.
 pub(crate) fn next(member: Member, movement: Movement) -> Member
     requires { ⌜ MovementRight movement ⌝ }
     ensures { λ r. ⌜ r ≡ nextOf movement member ⌝ }
@@ -169,7 +164,11 @@ pub(crate) fn next(member: Member, movement: Movement) -> Member
         return member;
     }
     match tried(movement, member) {
-        MemberTried::Accepted(rod) => with_state(member, rod),
-        MemberTried::Refused(_) => member,
+        Tried::Accepted(carried) => {
+            let kept = carried.keep();
+            let rod = kept.rod;
+            with_state(member, rod)
+        }
+        Tried::Refused(_) => member,
     }
 }

@@ -3,7 +3,6 @@ pub mod entry; // entry.rt: the entry
 mod each; // each.rt: one rod of a section, by value
 mod together; // together.rt: all rods, decided first and then stored
 
-use rod::Rod;
 use sheet::Sheet;
 use units::Curvature;
 use units::Nano;
@@ -28,12 +27,6 @@ pub struct Change {
 pub struct Movement {
     pub sheet: Sheet,
     pub change: Change,
-}
-
-// What trying a rod answers: the rod after its pair, or the number of its refusal.
-pub enum MemberTried {
-    Accepted(Rod),
-    Refused(u64),
 }
 
 // What the rods looked at so far came to: number and place of a refusal, or force and moment, and how many rods there were.

@@ -26,7 +26,7 @@ abbrev pub trialSeen : Seen → (trial : List ℕ) → TrialSeen
 trialSeen seen trial = record { seen = seen; trial = trial }
 
 abbrev pub trialSeenOf : TrialLeft → TrialSeen
-trialSeenOf l = trialSeen (seenOf (l .left)) (l .trial)
+trialSeenOf l = trialSeen (seenOf (l .left)) (l .bytes)
 
 -- SPEC 9.10: number + 256 · tangent, for a forecast.
 abbrev pub forecastInOneNumber : Answer ℕ → ℕ

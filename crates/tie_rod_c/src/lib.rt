@@ -7,7 +7,7 @@ ghost use Prim.Native.Nat.{_≤_, _<_};
 ghost use Rattle.refusals.specs.Table.{inOneNumber};
 ghost use Rattle.ranges.specs.Ranges.{mostPairs};
 ghost use Rattle.tie_rod.specs.Calls.{answerNumber, call, callLeaves, forecastAnswer, run, single, unusedAnswer, unusedLeft};
-ghost use Rattle.trial.specs.Trials.{keepLeaves, kept, trialLeaves, trialOf};
+ghost use Rattle.trial.specs.Trials.{keepLeaves, kept, trialLeaves, trialWith};
 ghost use Rattle.tie_rod_c.specs.Answers.{forecastInOneNumber, seen, seenOf, trialSeen, trialSeenOf};
 
 // The answer of a call as one number.
@@ -47,7 +47,7 @@ pub extern "C" fn tie_rod_pair(
     pack(entry::pair_bytes(sheet, state, pair, rows, next))
 }
 
-// A trial (SPEC 16.2).
+// A trial (SPEC 16.2, 16.6).
 #[no_mangle]
 pub extern "C" fn tie_rod_trial(
     sheet: &[u8],
@@ -57,12 +57,12 @@ pub extern "C" fn tie_rod_trial(
     next: &mut [u8],
     trial: &mut [u8; 75],
 ) -> u64
-    ensures { λ r. ⌜ trialSeen (seen r (now (row .exit)) (now (next .exit))) (now (trial .exit)) ≡ trialSeenOf (trialLeaves (now (sheet .entry)) (now (state .entry)) (trialOf (now (pair .entry)) (now (row .entry)) (now (next .entry)))) ⌝ }
+    ensures { λ r. ⌜ trialSeen (seen r (now (row .exit)) (now (next .exit))) (now (trial .exit)) ≡ trialSeenOf (trialLeaves (now (sheet .entry)) (now (state .entry)) (trialWith (now (pair .entry)) (now (row .entry)) (now (next .entry)))) ⌝ }
 {
     pack(trial::trial(sheet, state, pair, row, next, trial))
 }
 
-// The keeping of a trial (SPEC 16.4). Its answer has no place.
+// The keeping of a trial (SPEC 16.5, 16.6). Its answer has no place.
 #[no_mangle]
 pub extern "C" fn tie_rod_keep(trial: &[u8; 75], state: &[u8], next: &mut [u8]) -> u64
     ensures { λ r. ⌜ kept r (now (next .exit)) ≡ keepLeaves (now (trial .entry)) (now (state .entry)) (now (next .entry)) ⌝ }

@@ -134,9 +134,9 @@ module _ (sheet start : List ℕ) (t : Trial) where
   number = trialLeaves sheet start t .left .reply .number
 
   abbrev made : List ℕ
-  made = trialLeaves sheet start t .trial
+  made = trialLeaves sheet start t .bytes
 
-  -- An accepted trial's bytes are its start and its next state, each as long as a state.
+  -- What an accepted trial's bytes are, and a refused one's.
   made-accepted : number ≡ 0 → made ≡ acceptedBytes start (trialLeaves sheet start t .left .next)
   unfolding trialLeaves
   made-accepted none = rw (eq-eqb number 0 none)
@@ -146,7 +146,7 @@ module _ (sheet start : List ℕ) (t : Trial) where
   made-refused some = rw (ne-eqb number 0 some)
 
   module _ (none : number ≡ 0) where
-    pub made-whole : Whole sheet start (asSingle t)
+    made-whole : Whole sheet start (asSingle t)
     unfolding trialLeaves
     made-whole = accepted-whole sheet start (asSingle t) none
 

@@ -18,8 +18,8 @@ pub record Trial : Type 0 where
   pub row : List ℕ
   pub next : List ℕ
 
-abbrev pub trialOf : (pair row next : List ℕ) → Trial
-trialOf pair row next = record { pair = pair; row = row; next = next }
+abbrev pub trialWith : (pair row next : List ℕ) → Trial
+trialWith pair row next = record { pair = pair; row = row; next = next }
 
 -- SPEC 16.2: the single pair on the same bytes and buffers.
 abbrev pub asSingle : Trial → Call
@@ -42,10 +42,10 @@ trialBytes number start next = cond (eqb number 0) (acceptedBytes start next) (r
 -- SPEC 16.2: what a trial leaves: all that the single pair does, and those bytes.
 pub record TrialLeft : Type 0 where
   pub left : Left
-  pub trial : List ℕ
+  pub bytes : List ℕ
 
-abbrev pub trialLeft : Left → (trial : List ℕ) → TrialLeft
-trialLeft left trial = record { left = left; trial = trial }
+abbrev pub trialLeft : Left → (bytes : List ℕ) → TrialLeft
+trialLeft left bytes = record { left = left; bytes = bytes }
 
 unfoldable pub trialLeaves : (sheet state : List ℕ) → Trial → TrialLeft
 trialLeaves sheet state t =
@@ -54,7 +54,7 @@ trialLeaves sheet state t =
 
 -- ---- A keeping
 
--- SPEC 16.3: number, start and next state in bytes that are offered as a trial, whoever wrote them.
+-- SPEC 16.3, 16.8: number, start and next state in bytes that are offered as a trial, whoever wrote them.
 abbrev pub numberIn : List ℕ → ℕ
 numberIn trial = getD trial 0 0
 

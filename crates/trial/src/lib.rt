@@ -1,5 +1,5 @@
-// A pair tried on bytes, and the keeping of its trial (SPEC 16). A trial answers what the single pair does and moves nothing; its keeping
-// hands its next state on.
+// A pair tried on bytes, and the keeping of its trial (SPEC 16). A trial is the single pair, by which nothing of the caller's has moved yet;
+// its keeping hands the next state on.
 use tie_rod::Reply;
 use tie_rod::entry;
 ghost use mathlib.Core.Path.{_≡_};
@@ -9,7 +9,7 @@ ghost use Rattle.refusals.specs.Table.{firstOf, numbered};
 ghost use Rattle.bits.specs.Layout.{put};
 ghost use Rattle.state.specs.States.{stateLength};
 ghost use Rattle.tie_rod.specs.Calls.{left};
-ghost use Rattle.trial.specs.Trials.{acceptedBytes, keepLeaves, keepRefusals, kept, nextIn, refusedBytes, sameBytes, startIn, trialLeaves, trialLeft, trialLength, trialOf};
+ghost use Rattle.trial.specs.Trials.{acceptedBytes, keepLeaves, keepRefusals, kept, nextIn, refusedBytes, sameBytes, startIn, trialLeaves, trialLeft, trialLength, trialWith};
 
 // Where everything stands in a trial's bytes (SPEC 16.3): its number in the first, its start, its next state.
 const START_AT: usize = 1;
@@ -56,7 +56,7 @@ pub fn trial(
     next: &mut [u8],
     trial: &mut [u8; 75],
 ) -> Reply
-    ensures { λ r. ⌜ trialLeft (left r (now (row .exit)) (now (next .exit))) (now (trial .exit)) ≡ trialLeaves (now (sheet .entry)) (now (state .entry)) (trialOf (now (pair .entry)) (now (row .entry)) (now (next .entry))) ⌝ }
+    ensures { λ r. ⌜ trialLeft (left r (now (row .exit)) (now (next .exit))) (now (trial .exit)) ≡ trialLeaves (now (sheet .entry)) (now (state .entry)) (trialWith (now (pair .entry)) (now (row .entry)) (now (next .entry))) ⌝ }
 {
     let reply = entry::pair_bytes(sheet, state, pair, row, next);
     let number = reply.number;

@@ -1,7 +1,7 @@
 use mathlib.Core.Path.{ap, _∙_}
 use borrow.Author.Needs.{needs}
 use Rattle.tie_rod.proofs.Numbers.{reply-small, call-small}
-use Rattle.trial.specs.Trials.{Trial, trialOf, asSingle, TrialLeft}
+use Rattle.trial.specs.Trials.{Trial, trialWith, asSingle, TrialLeft}
 use Rattle.trial.proofs.TrialLaws.{trial-single}
 use Rattle.tie_rod_c.proofs.Bounds.{trial-seen-as}
 use Rattle.tie_rod_c.proofs.tie_rod_trial.Statement.{statement}
@@ -9,7 +9,7 @@ use Rattle.tie_rod_c.proofs.tie_rod_trial.Tie as tie
 
 -- the trial that the arguments make
 abbrev asked : tie.Start → Trial
-asked s = trialOf (s .args .pair .now) (s .args .row .now) (s .args .next .now)
+asked s = trialWith (s .args .pair .now) (s .args .row .now) (s .args .next .now)
 
 pack-requires : tie.Need-pack-requires
 pack-requires c κs =

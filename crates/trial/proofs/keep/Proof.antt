@@ -6,7 +6,7 @@ use native.Mathlib.Omega.{arith}
 use lib.ListN.{length, drop, length-drop}
 use lib.Seq.{length-take-le}
 use Rattle.refusals.specs.Table.{passes, firstOf}
-use Rattle.judge.proofs.JudgeLaws.{number-refused, number-passes}
+use Rattle.refusals.proofs.FirstLaws.{number-refused, number-passes}
 use Rattle.state.specs.States.{stateLength}
 use Rattle.tie_rod.proofs.CallLaws.{copied-whole}
 use Rattle.trial.specs.Trials.{trialLength, nextIn, keepRefusals, kept}

@@ -4,7 +4,7 @@ use borrow.Author.Tests.{eq-eqb, ne-eqb}
 use lib.ListN.{length}
 use Rattle.tie_rod.specs.Calls.{Left}
 use Rattle.tie_rod.proofs.Numbers.{Whole, call-small, reply-small, accepted-whole}
-use Rattle.trial.specs.Trials.{Trial, trialOf, asSingle, trialLength}
+use Rattle.trial.specs.Trials.{Trial, trialWith, asSingle, trialLength}
 use Rattle.trial.proofs.TrialLaws.{tried-as}
 use Rattle.trial.proofs.trial.Statement.{statement}
 use Rattle.trial.proofs.trial.Tie as tie
@@ -15,7 +15,7 @@ start c = c .before .before .before .before .before .before .before .before
 
 -- the trial that the arguments make
 abbrev asked : tie.Start → Trial
-asked s = trialOf (s .args .pair .now) (s .args .row .now) (s .args .next .now)
+asked s = trialWith (s .args .pair .now) (s .args .row .now) (s .args .next .now)
 
 write-refused-requires : tie.Need-write-refused-requires
 write-refused-requires c κs =

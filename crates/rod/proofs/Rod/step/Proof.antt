@@ -55,7 +55,7 @@ both-is : (c : tie.After-both-passed) → let a = start (strain-test c) .args in
     c .both-passed .result ≡ bothPassedBy (a .sheet .law) (a .sheet) (a .self) (trialOf (a .sheet) (a .self) (a .pair))
 both-is c =
     let a = start (strain-test c) .args in
-    c .both-passed .ensures ∙ ap (λ (g : Grain). bothPassedBy (a .sheet .law) (a .sheet) (a .self) (g .0)) (c .before .trial .ensures .0)
+    c .both-passed .ensures ∙ ap (λ (g : Grain). bothPassedBy (a .sheet .law) (a .sheet) (a .self) (g .0)) (c .before .trial-stress .ensures .0)
 
 returns-2 : tie.Need-returns-2
 unfolding firstOf stepRefusals
@@ -70,11 +70,11 @@ respond-requires c κs =
     let sheet = s .args .sheet in
     let facts = ranged rod (s .pre .0 .0 .in-range) in
     let law = same-law sheet rod (s .pre .0 .0 .belongs) in
-    let answerable : Answerable sheet (rod .first .0) (rod .second .0) (trial .trial .result .0) =
+    let answerable : Answerable sheet (rod .first .0) (rod .second .0) (trial .trial-stress .result .0) =
     record {
       sound = s .pre .0 .0 .sound;
       variables = variables-right (sheet .law) (rod .first .0) (rod .second .0) (ap (λ (l : Law). firstRight l (rod .first .0)) (sym law) ∙ facts .first) (ap (λ (l : Law). secondRight l (rod .second .0)) (sym law) ∙ facts .second);
-      trial-most = trial .trial .ensures .1;
+      trial-most = trial .trial-stress .ensures .1;
     } in
     (answerable, (s .pre .1 .0, c .negative .ensures))
 
@@ -84,7 +84,7 @@ outcome-is : (c : tie.After-respond) → let a = start (strain-test (both-test c
 outcome-is c =
     let trial = both-test c .before in
     let a = start (strain-test (both-test c)) .args in
-    c .respond .ensures ∙ ap (λ (g : Grain). outcomeOf (a .sheet) (a .self .first .0) (a .self .second .0) (g .0)) (trial .trial .ensures .0)
+    c .respond .ensures ∙ ap (λ (g : Grain). outcomeOf (a .sheet) (a .self .first .0) (a .self .second .0) (g .0)) (trial .trial-stress .ensures .0)
 
 leaves-range-requires : tie.Need-leaves-range-requires
 leaves-range-requires c κs = omega (arith, start (strain-test (both-test c)) .pre .0 .0 .counted)

@@ -5,9 +5,12 @@ use mathlib.Core.Bool.{true}
 use Rattle.refusals.specs.Table.{Answer, passes}
 use Rattle.rod.specs.declared.step.Advance.{Advance}
 use Rattle.state.specs.States.{StateFits}
+use Rattle.carry.specs.declared.Reached.{Reached}
+use Rattle.carry.specs.Reaching.{triedMeaning}
+use Rattle.carry.proofs.ReachedLaws.{tried-accepted, tried-refused}
 use Rattle.section.specs.Sections.{memberRight, memberAnswer}
-use Rattle.section.specs.Tallies.{memberMeaning, nextOf}
-use Rattle.section.proofs.MemberLaws.{member-passed, rod-moves, rod-refused}
+use Rattle.section.specs.Tallies.{nextOf}
+use Rattle.section.proofs.MemberLaws.{member-passed}
 use Rattle.section.proofs.each.next.Statement.{statement}
 use Rattle.section.proofs.each.next.Tie as tie
 
@@ -25,32 +28,38 @@ tried-requires : tie.Need-tried-requires
 tried-requires c κs = (c .before .before .pre, right-is c)
 
 -- the member passes
-moves : (c : tie.After-rod) → let s = c .before .before .before .before .before in (a : Advance) × ((answer s ≡ passes a) × (a .rod ≡ c .rod .given .0 .0))
+moves : (c : tie.After-carried) → let s = c .before .before .before .before .before in let carried = c .carried .given .0 .0 in
+    answer s ≡ passes (record { rod = carried .to .rod; row = carried .row })
 moves c =
     let tried = c .before .before in
-    rod-moves (answer (tried .before .before .before)) (ap memberMeaning (sym (c .rod .given .1)) ∙ tried .tried .ensures)
+    let s = tried .before .before .before in
+    tried-accepted (s .args .movement .sheet) (answer s) (ap triedMeaning (sym (c .carried .given .1)) ∙ tried .tried .ensures) .0
+
+-- the rod that is kept is the one that the trial came to
+kept-is : (c : tie.After-keep) → c .keep .result .rod ≡ c .before .before .carried .given .0 .0 .to .rod
+kept-is c = ap (λ (x : Reached). x .rod) (c .keep .ensures)
 
 with-state-requires : tie.Need-with-state-requires
 with-state-requires c κs =
-    let rod = c .before in
-    let s = rod .before .before .before .before .before in
-    let (a, (e, is)) = moves rod in
-    subst StateFits is (member-passed (s .args .movement .sheet) (s .args .movement .change) (s .args .member) (s .pre .sound) e .next .fits)
+    let keep = c .before in
+    let carried = keep .before .before in
+    let s = carried .before .before .before .before .before in
+    subst StateFits (sym (kept-is keep)) (member-passed (s .args .movement .sheet) (s .args .movement .change) (s .args .member) (s .pre .sound) (moves carried) .next .fits)
 
 returns-2 : tie.Need-returns-2
 unfolding nextOf
 returns-2 c =
-    let rod = c .before .before in
-    let right = rod .before .before .before in
-    let (a, (e, is)) = moves rod in
-    c .with-state .ensures ∙ simp (right-is right, e, is)
+    let keep = c .before .before in
+    let carried = keep .before .before in
+    let right = carried .before .before .before in
+    c .with-state .ensures ∙ simp (right-is right, moves carried, kept-is keep)
 
 returns-3 : tie.Need-returns-3
 unfolding nextOf
 returns-3 c =
     let tried = c .before .before in
     let s = tried .before .before .before in
-    simp (right-is (tried .before), rod-refused (answer s) (ap memberMeaning (sym (c .enum-told .given .1)) ∙ tried .tried .ensures))
+    simp (right-is (tried .before), tried-refused (s .args .movement .sheet) (answer s) (ap triedMeaning (sym (c .enum-told .given .1)) ∙ tried .tried .ensures))
 
 pub next-spec : {M : Type 1} → statement M
 next-spec =
@@ -60,6 +69,7 @@ next-spec =
     returns
     tried-requires
     (λ c. search needs)
+    (λ c κs. search needs)
     with-state-requires
     (λ c. search needs)
     returns-2

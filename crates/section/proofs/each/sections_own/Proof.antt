@@ -1,5 +1,4 @@
 use borrow.Author.Tests.{eq-eqb, ne-eqb}
-use lib.Dec.{eqb}
 use Rattle.section.specs.Tallies.{sectionsOwn}
 use Rattle.section.proofs.each.sections_own.Statement.{statement}
 use Rattle.section.proofs.each.sections_own.Tie as tie

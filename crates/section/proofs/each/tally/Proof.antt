@@ -1,17 +1,15 @@
 use borrow.Author.Needs.{needs}
 use borrow.Author.Tests.{not-true, not-false, ne-eqb, eq-eqb}
 use native.Mathlib.Omega.{arith}
-use Prim.Native.Nat.{_≤_}
-use mathlib.Core.Path.{_≡_, sym, ap, subst, _∙_}
-use lib.IntN.{natAbs}
+use mathlib.Core.Path.{_≡_, sym, ap, _∙_}
 use mathlib.Core.Bool.{true, false}
 use Rattle.refusals.specs.Table.{Answer, passes}
-use Rattle.ranges.specs.Ranges.{mostStress}
-use Rattle.rod.specs.declared.Rod.{Rod}
 use Rattle.rod.specs.declared.step.Advance.{Advance}
+use Rattle.carry.specs.Reaching.{triedMeaning}
+use Rattle.carry.proofs.ReachedLaws.{tried-accepted, tried-refused}
 use Rattle.section.specs.Sections.{memberRight, memberAnswer}
-use Rattle.section.specs.Tallies.{memberMeaning, sectionsOwn, tallyOf}
-use Rattle.section.proofs.MemberLaws.{next-stress-most, rod-moves, rod-refused}
+use Rattle.section.specs.Tallies.{sectionsOwn, tallyOf}
+use Rattle.section.proofs.MemberLaws.{next-stress-most}
 use Rattle.section.proofs.each.tally.Statement.{statement}
 use Rattle.section.proofs.each.tally.Tie as tie
 
@@ -48,19 +46,20 @@ tried-requires c κs =
     (s .pre (not-own (right .before .before)) .0, right-is right)
 
 -- the member passes
-moves : (c : tie.After-rod) → let s = c .before .before .before .before .before .before .before .before in (a : Advance) × ((answer s ≡ passes a) × (a .rod ≡ c .rod .given .0 .0))
+moves : (c : tie.After-carried) → let s = c .before .before .before .before .before .before .before .before in let carried = c .carried .given .0 .0 in
+    answer s ≡ passes (record { rod = carried .to .rod; row = carried .row })
 moves c =
     let tried = c .before .before in
-    rod-moves (answer (tried .before .before .before .before .before .before)) (ap memberMeaning (sym (c .rod .given .1)) ∙ tried .tried .ensures)
+    let s = tried .before .before .before .before .before .before in
+    tried-accepted (s .args .movement .sheet) (answer s) (ap triedMeaning (sym (c .carried .given .1)) ∙ tried .tried .ensures) .0
 
 added-requires : tie.Need-added-requires
 added-requires c κs =
-    let rod = c .before .before in
-    let none = rod .before .before .before in
+    let carried = c .before .before .before .before in
+    let none = carried .before .before .before in
     let s = none .before .before .before .before .before in
     let ready = s .pre (not-own (none .before .before .before)) in
-    let (a, (e, is)) = moves rod in
-    (ready .1, right-is (none .before), subst (λ (r : Rod). natAbs (r .stress .0) ≤ mostStress) is (next-stress-most (s .args .movement .sheet) (s .args .movement .change) (s .args .member) (ready .0 .sound) e))
+    (ready .1, right-is (none .before), next-stress-most (s .args .movement .sheet) (s .args .movement .change) (s .args .member) (ready .0 .sound) (moves carried))
 
 add-place : tie.Need-add-place
 add-place c =
@@ -71,12 +70,11 @@ add-place c =
 returns-4 : tie.Need-returns-4
 unfolding tallyOf
 returns-4 c =
-    let rod = c .before .before .before in
-    let none = rod .before .before .before in
+    let carried = c .before .before .before .before .before in
+    let none = carried .before .before .before in
     let right = none .before in
     let s = right .before .before .before .before in
-    let (a, (e, is)) = moves rod in
-    c .added .ensures ∙ simp (not-own (right .before .before), right-is right, eq-eqb (s .args .tally .number) 0 (omega (arith, none .if3 .left)), e, is)
+    c .added .ensures ∙ simp (not-own (right .before .before), right-is right, eq-eqb (s .args .tally .number) 0 (omega (arith, none .if3 .left)), moves carried)
 
 returns-5 : tie.Need-returns-5
 unfolding tallyOf
@@ -87,7 +85,7 @@ returns-5 c =
     let right = none .before in
     let s = right .before .before .before .before in
     c .bare2 .ensures
-    ∙ simp (not-own (right .before .before), right-is right, eq-eqb (s .args .tally .number) 0 (omega (arith, none .if3 .left)), rod-refused (answer s) (ap memberMeaning (sym (refusal .refusal .given .1)) ∙ tried .tried .ensures))
+    ∙ simp (not-own (right .before .before), right-is right, eq-eqb (s .args .tally .number) 0 (omega (arith, none .if3 .left)), tried-refused (s .args .movement .sheet) (answer s) (ap triedMeaning (sym (refusal .refusal .given .1)) ∙ tried .tried .ensures))
 
 pub tally-spec : {M : Type 1} → statement M
 tally-spec =

@@ -2,19 +2,14 @@ use borrow.Author.Needs.{needs}
 use borrow.Author.Tests.{not-true, not-false}
 use mathlib.Core.Path.{_≡_, sym, ap, _∙_}
 use mathlib.Core.Bool.{true, false}
-use Rattle.refusals.specs.Table.{Answer, passes, firstOf}
-use Rattle.refusals.proofs.FirstLaws.{passes-given}
+use Rattle.refusals.specs.Table.{passes, firstOf}
+use Rattle.refusals.proofs.FirstLaws.{passes-given, number-refused, number-passes}
 use Rattle.pair.specs.Pairs.{pairInRange}
 use Rattle.state.specs.States.{stateOf}
-use Rattle.rod.specs.declared.step.Advance.{Advance}
 use Rattle.rod.specs.Steps.{advanceOf, stepRefusals}
-use Rattle.carry.specs.declared.Reached.{Reached}
-use Rattle.carry.specs.Reaching.{triedMeaning, withReached}
-use Rattle.carry.proofs.ReachedLaws.{tried-accepted, tried-refused}
+use Rattle.carry.specs.Reaching.{withReached}
 use Rattle.judge.specs.Standing.{Ready, holderRefusals}
-use Rattle.judge.proofs.JudgeLaws.{number-refused, number-passes}
-use Rattle.section.specs.Sections.{memberAnswer, memberPair}
-use Rattle.section.specs.Tallies.{rodOf}
+use Rattle.section.specs.Sections.{memberPair}
 use Rattle.section.proofs.MemberLaws.{state-stops, pair-stops, step-decides}
 use Rattle.section.proofs.each.tried.Statement.{statement}
 use Rattle.section.proofs.each.tried.Tie as tie
@@ -38,7 +33,7 @@ returns c =
     let judged = c .before in
     let start = judged .before .before .before .before .before in
     let a = start .args in
-    ap rodOf (sym (state-stops (a .movement .sheet) (a .movement .change) (a .member) (ready start)
+    ap (withReached (a .movement .sheet)) (sym (state-stops (a .movement .sheet) (a .movement .change) (a .member) (ready start)
     (number-refused (judged .judge-state .result .number) _ (judged .judge-state .ensures .0) (c .if1 .taken))))
 
 returns-2 : tie.Need-returns-2
@@ -49,7 +44,7 @@ returns-2 c =
     let a = start .args in
     let out : pairInRange (memberPair (a .movement .change) (a .member)) ≡ false =
     ap pairInRange (sym (tested .before .pair-at .ensures)) ∙ sym (tested .in-range .ensures) ∙ not-true _ (c .if2 .taken) in
-    ap rodOf (sym (pair-stops (a .movement .sheet) (a .movement .change) (a .member) (ready start) (state-passed passed) out))
+    ap (withReached (a .movement .sheet)) (sym (pair-stops (a .movement .sheet) (a .movement .change) (a .member) (ready start) (state-passed passed) out))
 
 -- the pair is in its ranges
 pair-right : (c : tie.Else2) → pairInRange (c .before .before .pair-at .result) ≡ true
@@ -61,10 +56,8 @@ trial-requires c κs =
     (passed .before .judge-state .ensures .1 (passed .if1 .left), pair-right (c .before))
 
 -- what trying the pair answers is the member's answer
-answered : (c : tie.After-trial) → let passed = c .before .before .before .before .before in
-    let a = passed .before .before .before .before .before .before .args in
-    triedMeaning (c .trial .result) ≡ withReached (a .movement .sheet) (memberAnswer (a .movement .sheet) (a .movement .change) (a .member))
-answered c =
+returns-3 : tie.Need-returns-3
+returns-3 c =
     let tested = c .before .before in
     let passed = tested .before .before .before in
     let start = passed .before .before .before .before .before .before in
@@ -75,24 +68,6 @@ answered c =
     c .trial .ensures
     ∙ ap (withReached h) ((λ i. firstOf (stepRefusals h (sym (same-rod passed) i) (is i)) (advanceOf h (sym (same-rod passed) i) (is i)))
     ∙ sym (step-decides h (a .movement .change) (a .member) (ready start) (state-passed passed) right))
-
-abbrev answer : tie.After-trial → Answer Advance
-answer c =
-    let a = c .before .before .before .before .before .before .before .before .before .before .before .args in
-    memberAnswer (a .movement .sheet) (a .movement .change) (a .member)
-
-returns-3 : tie.Need-returns-3
-returns-3 c =
-    let carried = c .before .before .before in
-    let trial = carried .before .before in
-    ap (λ (x : Reached). passes (x .rod)) (c .before .keep .ensures)
-    ∙ sym (ap rodOf (tried-accepted _ (answer trial) (ap triedMeaning (sym (carried .carried .given .1)) ∙ answered trial) .0))
-
-returns-4 : tie.Need-returns-4
-returns-4 c =
-    let number = c .before in
-    let trial = number .before .before in
-    sym (ap rodOf (tried-refused _ (answer trial) (ap triedMeaning (sym (number .number .given .1)) ∙ answered trial)))
 
 pub tried-spec : {M : Type 1} → statement M
 tried-spec =
@@ -105,8 +80,4 @@ tried-spec =
     (λ c κs. search needs)
     returns-2
     trial-requires
-    (λ c. search needs)
-    (λ c κs. search needs)
-    (λ c. search needs)
-    returns-3
-    returns-4)
+    returns-3)

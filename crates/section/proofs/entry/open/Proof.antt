@@ -4,13 +4,13 @@ use native.Mathlib.Omega.{arith}
 use mathlib.Core.Path.{_≡_, sym, ap, subst, _∙_}
 use mir.Facts.{toZ-ofZ}
 use Rattle.refusals.specs.Table.{passes, firstOf}
-use Rattle.refusals.proofs.FirstLaws.{stops-first, goes-on}
+use Rattle.refusals.proofs.FirstLaws.{stops-first, goes-on, number-refused, number-passes}
 use Rattle.units.proofs.Words.{stored}
 use Rattle.units.specs.Kinds.{nano, tenths, curvature}
 use Rattle.sheet.specs.Sheets.{sheetRefusals, sheetOf}
 use Rattle.sheet.specs.Sound.{SheetSound}
 use Rattle.sheet.proofs.Passed.{passed-sound}
-use Rattle.judge.proofs.JudgeLaws.{number-refused, number-passes, read-numbered}
+use Rattle.judge.proofs.JudgeLaws.{read-numbered}
 use Rattle.section.specs.declared.Change.{Change}
 use Rattle.section.specs.Sections.{changeOf, callRight}
 use Rattle.section.specs.Tallies.{openRefusals}

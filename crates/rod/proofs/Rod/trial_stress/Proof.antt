@@ -11,8 +11,8 @@ use Rattle.rod.specs.declared.step.ThermalStrains.{ThermalStrains}
 use Rattle.rod.specs.Steps.{trialOf}
 use Rattle.rod.proofs.RangeFacts.{ranged}
 use Rattle.rod.proofs.ThermalFacts.{thermals-most}
-use Rattle.rod.proofs.Rod.trial.Statement.{statement}
-use Rattle.rod.proofs.Rod.trial.Tie as tie
+use Rattle.rod.proofs.Rod.trial_stress.Statement.{statement}
+use Rattle.rod.proofs.Rod.trial_stress.Tie as tie
 
 -- where the function starts
 abbrev start : tie.After-minus → tie.Start
@@ -72,8 +72,8 @@ returns c =
       omega (arith, c .plus .ensures .1, stresses times),
     )
 
-pub trial-spec : {M : Type 1} → statement M
-trial-spec =
+pub trial-stress-spec : {M : Type 1} → statement M
+trial-stress-spec =
     tie.close
     (tie.spec
     minus-requires
