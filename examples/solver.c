@@ -7,6 +7,7 @@
 
 #include <inttypes.h>
 #include <stdio.h>
+#include <stdlib.h>
 #include <string.h>
 
 #define TRIALS 3
@@ -43,10 +44,16 @@ static int64_t stress_of(const uint8_t *row)
     return field(row + 3, 6);
 }
 
+/* Behind the yielded bit and three zero bits, in 20 bits. */
+static int64_t tangent_of(const uint8_t *row)
+{
+    return (int64_t)(row[0] & 0x0f) << 16 | row[1] << 8 | row[2];
+}
+
 static void print_card(void)
 {
     printf("  card: strain %" PRId64 " nano, stress %" PRId64 " grains", field(card + 1, 4), field(card + 7, 6));
-    printf(", %" PRId64 " pairs, %" PRId64 " of them yielded\n", field(card + 29, 4), field(card + 33, 4));
+    printf(", %" PRIu32 " pairs, %" PRIu32 " of them yielded\n", (uint32_t)field(card + 29, 4), (uint32_t)field(card + 33, 4));
 }
 
 /* Tries a change from the state on the card, and prints its row. */
@@ -89,21 +96,22 @@ static uint64_t keep(const char *name, const uint8_t *trial, size_t next_len)
 /* Tries three changes, each from the state on the card; which of them comes nearest to the wanted stress. */
 static int seek(int64_t wanted, uint8_t trials[TRIALS][TIE_ROD_TRIAL_BYTES])
 {
-    /* As if the rod were elastic; then by the tangent of the row that came of it; and further still. */
-    static const int32_t changes[TRIALS] = {205000, 700000, 1200000};
     uint8_t row[TIE_ROD_ROW_BYTES];
     int64_t least = INT64_MAX;
     int nearest = 0;
+    /* First as if the rod were elastic, with E. */
+    int64_t change = (wanted - field(card + 7, 6)) / 200000;
     printf("three trials for a stress of %" PRId64 " grains\n", wanted);
     for (int i = 0; i < TRIALS; i++) {
-        if (try_change(changes[i], row, trials[i]) != TIE_ROD_ACCEPTED)
+        if (try_change((int32_t)change, row, trials[i]) != TIE_ROD_ACCEPTED)
             continue;
-        int64_t stress = stress_of(row);
-        int64_t away = stress > wanted ? stress - wanted : wanted - stress;
-        if (away < least) {
-            least = away;
+        int64_t away = wanted - stress_of(row);
+        if (llabs(away) < least) {
+            least = llabs(away);
             nearest = i;
         }
+        /* Then by the tangent of the row that came of it, and then half a thousandth further. */
+        change += i == 0 ? away / tangent_of(row) : 500000;
     }
     print_card();
     return nearest;

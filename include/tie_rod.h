@@ -146,7 +146,7 @@ enum tie_rod_numbers {
     /* About the steel. */
     TIE_ROD_RANGE = 10,       /* the new stress, centre, abscissa or n wouldn't fit its
                                  range (SPEC 8.5) */
-    TIE_ROD_BOTH_LIMITS = 11, /* law 3: the trial lies beyond the limits of both sides. That
+    TIE_ROD_BOTH_LIMITS = 11, /* law 3: the trial stress lies beyond both limits. That
                                  it is answered under this condition and no other is
                                  proved; no sheet and state that pass are known to meet
                                  it, and that none can is not proved yet (SPEC 8.7) */
@@ -229,30 +229,31 @@ uint64_t tie_rod_trial(const uint8_t *sheet, size_t sheet_len,
 
 /*
  * The keeping of a trial (SPEC 16): makes the trial's next state the rod's.
- * `state` is the state that the rod has now, as its card does. The answer is the
+ * `state` is the state that the rod has now, as its card has it. The answer is the
  * number, 0, 12 or 15; there is no place.
  *
  *   number   next                     what it says
- *   0        the trial's next state   the rod has moved on by the trial's pair
+ *   0        the trial's next state   it is the rod's: copy it to the card
  *   12       unchanged                `next` hasn't 37 bytes
  *   15       unchanged                `state` isn't the one that the trial started
  *                                     from, byte for byte, or the trial was itself
  *                                     refused; a `state` that hasn't 37 bytes gets
  *                                     15 too, and never 4
  *
- * Of the trials from one state one can be kept: as soon as the rod has moved on,
- * by a keeping, a single pair or a run, the others get 15, and so does the kept
- * one. n and k count a kept pair once, and a pair that was only tried never.
+ * Once the card holds another state, from a keeping, a single pair or a run, every
+ * trial from the state before gets 15, the kept one too. So of several trials from
+ * one state one is kept, and once. n and k count a kept pair once, and a pair that
+ * was only tried never.
  *
  * Whoever keeps the state on a card stores this `next` on 0 only, and never the
  * `next` of a trial. Buffers of one call must not overlap, so lend another `next`
  * than the card's own bytes, and copy it there afterwards. On 12 and 15 the card
- * stays as it is. tie_rod_has_next and tie_rod_rows are not for this answer.
+ * stays as it is, as tie_rod_has_next says; tie_rod_rows is not for this answer.
  *
  * A trial belongs to the sheet that it was made with, which isn't asked for here:
  * keep it for rods of that sheet only. `trial` is never NULL. Any 75 bytes end
  * with one of the three numbers, but bytes that no trial wrote lead to no state
- * that is promised anything.
+ * that is promised anything: 75 zeros, say, are kept from a state of zeros.
  */
 uint64_t tie_rod_keep(const uint8_t trial[TIE_ROD_TRIAL_BYTES],
                       const uint8_t *state, size_t state_len,
@@ -356,10 +357,10 @@ static inline size_t tie_rod_place(uint64_t answer)
 }
 
 /*
- * Whether `next` after tie_rod_run or tie_rod_pair is to be stored: all pairs were
- * accepted, or one of them was refused and so has a place (8 to 11). On any other
- * answer, 13 among them, the card stays as it is. Not for tie_rod_trial, whose
- * `next` is never stored, nor for tie_rod_keep, whose `next` is on 0.
+ * Whether `next` after tie_rod_run, tie_rod_pair or tie_rod_keep is to be stored:
+ * all pairs were accepted, or one of them was refused and so has a place (8 to
+ * 11). On any other answer, 13 among them, the card stays as it is. Not for
+ * tie_rod_trial, whose `next` is never stored.
  */
 static inline int tie_rod_has_next(uint64_t answer)
 {

@@ -25,7 +25,7 @@ LastRowShows h (row ∷ []) r = (row .yielded ≡ r .yielded) × (row .stress �
 LastRowShows h (row ∷ (next ∷ rows)) r = LastRowShows h (next ∷ rows) r
 
 module _ (h : Sheet) (sound : SheetSound h) where
-  -- SPEC 6.6: the trial of a pair, from a stored state, passes a limit of the sheet's law.
+  -- SPEC 6.6: the trial stress of a pair, from a stored state, passes a limit of the sheet's law.
   abbrev pub PassesLimit : Rod → Pair → Type 0
   PassesLimit r p = Passes h sound (h .law) (whole (trialOf h r p)) (whole (r .first .0)) (whole (r .second .0))
 

@@ -51,7 +51,7 @@ begins unused = record { state = unused; history = []; rows = [] }
 abbrev pub acceptedBy : (number place pairs : ℕ) → ℕ
 acceptedBy number place pairs = cond (eqb number 0) pairs (place - 1)
 
--- The row of a single pair or a trial.
+-- SPEC 9.3, 16.2: the row of a single pair or a trial that is accepted.
 abbrev pub rowIn : Left → Row
 rowIn l = rowOf (take rowLength (l .rows))
 
