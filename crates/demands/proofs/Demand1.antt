@@ -12,7 +12,7 @@ use lib.Dec.{eqb}
 use lib.ListN.{length, getD, drop, length-append}
 use lib.Seq.{take-at}
 use Rattle.refusals.specs.Table.{Answer, passes, refused, firstOf, NoneApplies, Given, numbersOf}
-use Rattle.refusals.proofs.FirstLaws.{answer-number, none-passes, none-split, given-refused, decides, first-follows}
+use Rattle.refusals.proofs.FirstLaws.{Numbered, answer-number, none-passes, none-split, given-refused, decides, first-follows}
 use Rattle.pair.specs.Pairs.{pairLength, pairRefusals, listRefusals}
 use Rattle.row.specs.Rows.{rowLength}
 use Rattle.sheet.specs.declared.Sheet.{Sheet}
@@ -27,13 +27,13 @@ use Rattle.rod.specs.Forecast.{forecastOf}
 use Rattle.rod.specs.Unused.{unusedOf}
 use Rattle.state.proofs.RoundTrip.{bytes-again}
 use Rattle.carry.specs.Walk.{pairTable, pairAnswer, lastRod, rowsOf, rowsBytes, History, Walk, walk}
-use Rattle.carry.proofs.PairAnswers.{pair-number, answer-given, given-answer}
+use Rattle.carry.proofs.PairAnswers.{pair-numbered, answer-given, given-answer}
 use Rattle.carry.proofs.Histories.{history-long, history-same, bytes-long}
 use Rattle.carry.proofs.Walks.{walk-all, walk-until, AllPass, OneFails, ends}
 use Rattle.judge.specs.Standing.{Ready, readyOf, standingRefusals}
 use Rattle.tie_rod.specs.Calls.{Kind, single, run, Call, pieces, pieceAt, countIn, pairsIn, bufferRefusals, lengthRefusals, callRefusals, Left, left, handed, over, replyOf, partOf, stopped, leftBy, callLeaves, tangentTold, forecastAnswer, unusedAnswer, unusedLeft}
 use Rattle.tie_rod.proofs.PieceLaws.{length-pieces, pieces-around}
-use Rattle.tie_rod.proofs.Numbers.{Refuses, standing-numbers, call-numbers}
+use Rattle.tie_rod.proofs.Numbers.{standing-numbers, call-numbers}
 use Rattle.tie_rod.proofs.CallLaws.{lengths-pass, handed-whole, never-handed, standing-stops, call-stops, call-walked}
 use Rattle.section.specs.declared.Member.{Member}
 use Rattle.section.specs.declared.Change.{Change}
@@ -71,14 +71,13 @@ module _ (sheet state : List ℕ) (c : Call) where
   Some n = n ≡ 0 → ⊥
 
   standing-number : {n : ℕ} → Given (standingRefusals sheet state) n → Some n
-  standing-number g z =
-      let few = answer-number Refuses (standingRefusals sheet state) ready (standing-numbers sheet state) (given-refused (standingRefusals sheet state) ready g) in
-      omega (arith, few .least, z)
+  standing-number g =
+      answer-number Numbered (standingRefusals sheet state) ready (standing-numbers sheet state) (given-refused (standingRefusals sheet state) ready g) .0
 
   pub call-number : {n : ℕ} → Given (callRefusals c) n → Some n
-  call-number g z =
-      let numbers = call-numbers (c .kind) (length (c .pairs)) (length (c .rows)) (length (c .next)) in
-      omega (arith, answer-number Refuses (callRefusals c) ready numbers (given-refused (callRefusals c) ready g) .least, z)
+  call-number g =
+      answer-number Numbered (callRefusals c) ready (call-numbers (c .kind) (length (c .pairs)) (length (c .rows)) (length (c .next)))
+      (given-refused (callRefusals c) ready g) .0
 
   -- and one whose pairs were walked.
   abbrev pub wentTo : Walk → Left
@@ -147,7 +146,7 @@ module _ (sheet state : List ℕ) (c : Call) where
   accepted-of e = ap (λ (l : Left). acceptedBy (l .reply .number) (l .reply .place) (countIn (c .pairs))) e
 
   some-number : {m n : ℕ} (f : Fails m n) → eqb n 0 ≡ false
-  some-number {m} {n} f = ne-eqb n 0 (pair-number h (lastRod r (f .advances)) (pieceAt pairLength m (c .pairs)) (f .refuses))
+  some-number {m} {n} f = ne-eqb n 0 (pair-numbered h (lastRod r (f .advances)) (pieceAt pairLength m (c .pairs)) (f .refuses) .0)
 
   pub accepted-until : {m n : ℕ} → NoneApplies (standingRefusals sheet state) → NoneApplies (callRefusals c) → Fails m n → acceptedIn sheet state c ≡ m
   accepted-until {m} {n} none own f =

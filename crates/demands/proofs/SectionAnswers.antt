@@ -10,7 +10,7 @@ use borrow.Author.Tests.{eq-eqb}
 use lib.IntN.{natAbs, _+ℤ_}
 use lib.ListN.{length}
 use Rattle.refusals.specs.Table.{Refusal, refusal, Answer, passes, refused, firstOf, NoneApplies, Given, Decided}
-use Rattle.refusals.proofs.FirstLaws.{none-passes, passes-none-applies, given-refused, refused-given, both-pass, decides, answer-number}
+use Rattle.refusals.proofs.FirstLaws.{Numbered, none-passes, passes-none-applies, given-refused, refused-given, both-pass, decides, answer-number}
 use Rattle.sheet.specs.declared.Sheet.{Sheet}
 use Rattle.sheet.specs.Sheets.{sheetOf, sheetRefusals, sheetFieldRefusals}
 use Rattle.sheet.specs.Sound.{SheetSound}
@@ -29,7 +29,7 @@ use Rattle.section.specs.Sections.{sectionRefusals, memberPair, memberTable, me
 use Rattle.section.proofs.MemberLaws.{member-passed}
 use Rattle.section.proofs.MovesLaws.{Pass, movesOf, pass-move, one-stops, all-pass, one-stopped}
 use Rattle.section.proofs.SectionBounds.{section-right, few-members, sums-most}
-use Rattle.section.proofs.Numbers.{Numbered, lines-numbered, member-numbered}
+use Rattle.section.proofs.Numbers.{lines-numbered, member-numbered}
 use Rattle.tie_rod.specs.Calls.{callLeaves}
 use Rattle.demands.specs.Sections.{Each, EachAfter, loneCall, forceNow, momentNow, MovedAlone, BySection, ByMember, SectionReason, SectionAnswered}
 use Rattle.demands.proofs.LoneRods.{lone-number, lone-next, lone-refused}

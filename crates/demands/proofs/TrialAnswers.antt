@@ -1,5 +1,5 @@
--- Demand 1 for trials and keepings (SPEC 16.7, 16.8): a trial answers as the single pair does, and a keeping by the trial's own number, start
--- and next state; of bytes that no trial wrote it makes what their places say.
+-- Demand 1 for trials and keepings (SPEC 16.7, 16.8): a trial answers as the single pair does, and a keeping by the trial's own number,
+-- start and next state; of bytes that no trial wrote it makes what their places say.
 use Prim.Native.Nat.{ℕ}
 use mathlib.Core.Path.{_≡_, refl, sym, ap, subst, _∙_}
 use mathlib.Core.Bool.{Bool, true, false, _&&_, and-false}
@@ -10,7 +10,7 @@ use borrow.Author.Tests.{eqb-true, eqb-false, eq-eqb, ne-eqb}
 use lib.Dec.{eqb}
 use lib.ListN.{length}
 use Rattle.refusals.specs.Table.{Refusal, Answer, passes, refused, firstOf, NoneApplies, Given, numbersOf}
-use Rattle.refusals.proofs.FirstLaws.{both-hold, answer-number, refused-given, given-refused, none-passes, passes-none-applies, passes-anyhow}
+use Rattle.refusals.proofs.FirstLaws.{Numbered, line, both-hold, answer-number, refused-given, given-refused, none-passes, passes-none-applies, passes-anyhow}
 use Rattle.state.specs.States.{stateLength}
 use Rattle.trial.specs.Trials.{Trial, trialLeaves, nextIn, sameBytes, keepRefusals, Kept, kept, keepLeaves}
 use Rattle.trial.proofs.TrialLaws.{same-are, are-same, not-same, differ-not, trial-single, made-long, keep-made, keep-stops, keep-left, keep-handed}
@@ -23,12 +23,9 @@ module _ (trial offered next : List ℕ) where
   abbrev table : List Refusal
   table = keepRefusals trial offered (length next)
 
-  abbrev Some : ℕ → Type 0
-  Some n = n ≡ 0 → ⊥
-
-  some-number : {n : ℕ} → firstOf table (nextIn trial) ≡ refused n → Some n
+  some-number : {n : ℕ} → firstOf table (nextIn trial) ≡ refused n → n ≡ 0 → ⊥
   unfolding keepRefusals
-  some-number e = answer-number Some table (nextIn trial) ((λ z. omega (arith, z)), ((λ z. omega (arith, z)), tt)) e
+  some-number e = answer-number Numbered table (nextIn trial) (line 12 (omega arith) (omega arith), (line 15 (omega arith) (omega arith), tt)) e .0
 
   is-passed : {new : List ℕ} → firstOf table (nextIn trial) ≡ passes new → keepLeaves trial offered next ≡ kept 0 (nextIn trial)
   is-passed e = keep-handed trial offered next (passes-anyhow table (nextIn trial) (nextIn trial) e)

@@ -147,8 +147,8 @@ module _ (sheet : List ℕ) where
           → (rowOf (pieceAt rowLength j (callLeaves sheet (s .state) c .rows)) .yielded ≡ true)
           ↔ PassesLimit (sheetOf sheet) sound (stateOf (stateIn (s .state) c j)) (pairOf (pieceAt pairLength j (c .pairs)))
 
-    -- SPEC 11.15, of a trial: nothing has moved by it. Where it is accepted, its row and its next state lie within k and its own yielded bit
-    -- of the bar that is fed its pair too, and the row is marked as any other.
+    -- SPEC 11.15, of a trial: nothing has moved by it. Where it is accepted, its row and its next state lie within k and its own yielded
+    -- bit of the bar that is fed its pair too, and the row is marked as any other.
     pub record AtTrial (s : Situation) (t : Trial) : Type 0 where
       pub stop : Holds (after s (tries t))
       pub tried : triedIn (s .state) t .reply .number ≡ 0 → Holds (trialStop s t)

@@ -1,5 +1,5 @@
 -- What an answer says of the table that it comes from (SPEC 8.1).
-use Prim.Native.Nat.{ℕ}
+use Prim.Native.Nat.{ℕ, _<_}
 use mathlib.Core.Path.{_≡_, refl, sym, ap, _∙_}
 use mathlib.Core.Bool.{Bool, true, false, _&&_, _||_, false≢true, cond}
 use mathlib.Core.List.{List, [], _∷_, _++_, append-nil}
@@ -45,6 +45,13 @@ passes-given (r ∷ rest) v e = passes-given rest v (passes-line (r .number) (r 
 abbrev pub AllNumbers : (ℕ → Type 0) → List Refusal → Type 0
 AllNumbers P [] = Unit {0}
 AllNumbers P (r ∷ rest) = P (r .number) × AllNumbers P rest
+
+-- SPEC 9.10: what holds of every number in the tables: none is 0, and each fits a byte.
+abbrev pub Numbered : ℕ → Type 0
+Numbered n = (n ≡ 0 → ⊥) × (n < 256)
+
+pub line : (n : ℕ) → 0 < n → n < 256 → Numbered n
+line n some most = ((λ z. omega (arith, some, z)), most)
 
 pub answer-number : {A : Type 0} (P : ℕ → Type 0) (table : List Refusal) (v : A) {n : ℕ} → AllNumbers P table → firstOf table v ≡ refused n → P n
 unfolding firstOf

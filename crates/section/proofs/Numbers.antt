@@ -1,11 +1,11 @@
 -- The numbers that a section's lines and a member's lines can give (SPEC 15.4): none is 0, and each fits a byte.
-use Prim.Native.Nat.{ℕ, _<_}
+use Prim.Native.Nat.{ℕ}
 use mathlib.Core.Path.{_≡_}
 use mathlib.Core.List.{List, [], _∷_, _++_}
 use mathlib.Core.Bool.{Bool}
 use native.Mathlib.Omega.{arith}
-use Rattle.refusals.specs.Table.{Refusal, refusal, Answer, refused, firstOf}
-use Rattle.refusals.proofs.FirstLaws.{answer-number}
+use Rattle.refusals.specs.Table.{refusal, refused, firstOf}
+use Rattle.refusals.proofs.FirstLaws.{Numbered, line, answer-number}
 use Rattle.sheet.specs.declared.Sheet.{Sheet}
 use Rattle.sheet.specs.Sheets.{sheetRefusals, sheetFieldRefusals}
 use Rattle.state.specs.States.{stateRefusals, stateFieldRefusals, stateOf}
@@ -14,12 +14,6 @@ use Rattle.rod.specs.Steps.{stepRefusals, advanceOf}
 use Rattle.section.specs.declared.Member.{Member}
 use Rattle.section.specs.declared.Change.{Change}
 use Rattle.section.specs.Sections.{memberPair, memberTable, memberAnswer}
-
-abbrev pub Numbered : ℕ → Type 0
-Numbered n = (n ≡ 0 → ⊥) × (n < 256)
-
-line : (n : ℕ) → 0 < n → n < 256 → Numbered n
-line n some most = ((λ z. omega (arith, some, z)), most)
 
 -- The sheet's lines with 14 below them, whenever it applies.
 pub lines-numbered : {A : Type 0} (sheet : List ℕ) (t : Bool) (v : A) {n : ℕ} → firstOf (sheetRefusals sheet ++ (refusal 14 t ∷ [])) v ≡ refused n → Numbered n

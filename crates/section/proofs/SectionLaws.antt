@@ -9,7 +9,7 @@ use lib.Dec.{eqb}
 use lib.IntN.{ℤ, pos, natAbs, _+ℤ_, +ℤ-assoc, +ℤ-idl, +ℤ-idr}
 use lib.ListN.{length, length-append}
 use Rattle.refusals.specs.Table.{Answer, passes, refused, refusal, firstOf}
-use Rattle.refusals.proofs.FirstLaws.{both-hold, stops-first, goes-on}
+use Rattle.refusals.proofs.FirstLaws.{Numbered, both-hold, stops-first, goes-on}
 use Rattle.units.proofs.Magnitudes.{magnitude-sum}
 use Rattle.sheet.specs.declared.Sheet.{Sheet}
 use Rattle.sheet.specs.Sheets.{sheetRefusals, sheetOf}
@@ -23,7 +23,7 @@ use Rattle.section.specs.Sections.{memberRight, allRight, callRight, sec
 use Rattle.section.specs.Tallies.{bareTally, addedTo, counted, sectionsOwn, tallyOf, tallyAll, nextBy, nextOf, nextAll, settledAfter, replyOf, MovementRight, Room, GoesOn, openRefusals, startBy, Opened}
 use Rattle.section.proofs.MemberLaws.{force-most, force-magnitude, moment-most, moment-magnitude, next-stress-most}
 use Rattle.section.proofs.MovesLaws.{same-all, Pass, movesOf, pass-move, all-pass, one-stopped}
-use Rattle.section.proofs.Numbers.{Numbered, lines-numbered, member-numbered}
+use Rattle.section.proofs.Numbers.{lines-numbered, member-numbered}
 
 -- ---- Room
 

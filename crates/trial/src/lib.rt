@@ -1,5 +1,5 @@
-// A pair tried on bytes, and the keeping of its trial (SPEC 16). A trial is the single pair, by which nothing of the caller's has moved yet;
-// its keeping hands the next state on.
+// A pair tried on bytes, and the keeping of its trial (SPEC 16). A trial is the single pair, by which nothing of the caller's has moved
+// yet; its keeping hands the next state on.
 use tie_rod::Reply;
 use tie_rod::entry;
 ghost use mathlib.Core.Path.{_≡_};
@@ -28,7 +28,7 @@ fn write_refused(number: u64, trial: &mut [u8])
     bits::write(trial, 0, START_AT, number);
 }
 
-// Copies some bytes to a place of a trial's.
+// Copies some bytes to a place in a trial's bytes.
 fn store(bytes: &[u8], trial: &mut [u8], at: usize)
     requires { ⌜ at + length (now bytes) ≤ length (now trial) ⌝ }
     ensures { λ _. ⌜ now (trial .exit) ≡ put (now (trial .entry)) at (now (bytes .entry)) ⌝ }
