@@ -1,11 +1,12 @@
 -- Laws of a field of bits: how wide it is, where it can be cut in two, and that eight bits from a byte's start are that byte.
 use Prim.Native.Nat.{ℕ, zero, suc, _+_, _-_, _*_, _/_, _%_, _^_, _≤_, _<_}
-use mathlib.Core.Path.{_≡_, sym, ap, _∙_}
+use mathlib.Core.Path.{_≡_, refl, sym, ap, _∙_}
 use mathlib.Core.List.{List}
 use native.Mathlib.Nat.{add-suc, add-zero, add-assoc, pow-suc, div-one}
 use native.Mathlib.Omega.{arith}
-use lib.ListN.{getD}
+use lib.ListN.{getD, take, drop}
 use lib.Pow.{shr-shr, high, low}
+use lib.Seq.{getD-take, getD-drop}
 use Rattle.bits.specs.Field.{bit, field}
 use Rattle.bits.specs.Layout.{widthAt, offset, fieldAt}
 
@@ -61,3 +62,16 @@ field-next-byte s from i h b =
 pub field-inside : (s : List ℕ) (at before w after : ℕ) → field s at (before + w + after) / 2 ^ after % 2 ^ w ≡ field s (at + before) w
 field-inside s at before w after =
     rw (field-split s at (before + w) after, high (field s at (before + w)) after (field-below s (at + (before + w)) after), field-split s at before w, low (field s at before) w (field-below s (at + before) w))
+
+-- A field of a piece of some bytes lies in them behind the bytes before the piece.
+bit-in-piece : (s : List ℕ) (m n k : ℕ) → k < 8 * n → bit (take n (drop m s)) k ≡ bit s (8 * m + k)
+bit-in-piece s m n k h =
+    let q : (8 * m + k) / 8 ≡ m + k / 8 = omega arith in
+    let r : (8 * m + k) % 8 ≡ k % 8 = omega arith in
+    rw (q, r, getD-take n (drop m s) (k / 8) 0 (omega arith), getD-drop m s (k / 8) 0)
+
+pub field-in-piece : (s : List ℕ) (m n at w : ℕ) → at + w ≤ 8 * n → field (take n (drop m s)) at w ≡ field s (8 * m + at) w
+unfolding field
+field-in-piece s m n at zero h = refl
+field-in-piece s m n at (suc w) h =
+    rw (field-in-piece s m n at w (omega arith), bit-in-piece s m n (at + w) (omega arith), add-assoc (8 * m) at w)

@@ -72,3 +72,7 @@ mostOffset = 1000
 -- SPEC 15.3: the greatest magnitude of a change of curvature.
 abbrev pub mostCurvature : ℕ
 mostCurvature = 1000000
+
+-- SPEC 17.2: the greatest tolerance of a grading.
+abbrev pub mostTolerance : ℕ
+mostTolerance = 1000000000000

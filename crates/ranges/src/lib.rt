@@ -56,6 +56,9 @@ pub const LEAST_CURVATURE: i64 = -1000000;
 
 pub const MOST_CURVATURE: i64 = 1000000;
 
+// How far a graded stress may lie from ours, in grains.
+pub const MOST_TOLERANCE: i64 = 1000000000000;
+
 // Whether a number lies within its bounds, both included.
 pub fn within(least: u64, most: u64, x: u64) -> bool
     ensures { λ r. ⌜ r ≡ within least most x ⌝ }

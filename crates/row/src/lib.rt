@@ -2,8 +2,8 @@
 use units::Grain;
 use units::Modulus;
 ghost use mathlib.Core.Path.{_≡_};
-ghost use Prim.Native.Nat.{_+_, _≤_};
-ghost use lib.ListN.{length, take};
+ghost use Prim.Native.Nat.{_+_, _*_, _^_, _≤_, _<_};
+ghost use lib.ListN.{length, take, drop};
 ghost use Rattle.bits.specs.Layout.{filled, packed, put};
 ghost use Rattle.row.specs.Rows.{RowFits, rowBytes, rowLayout, rowLength, rowOf, rowValues};
 
@@ -61,6 +61,16 @@ impl Row {
             stress: Grain(stress),
             plastic: Grain(plastic),
         }
+    }
+
+    // The stress in the row that comes after j others, and no other field of it.
+    pub fn stress_at(rows: &[u8], j: usize) -> Grain
+        requires { ⌜ j < 2 ^ 50 ⌝ }
+        ensures { λ r. ⌜ r ≡ rowOf (take rowLength (drop (rowLength * j) (now (rows .entry)))) .stress ⌝ }
+    {
+        let at = 8 * ROW_LENGTH * j + STRESS_AT;
+        let stress = bits::read_whole(rows, at, STRESS_WIDTH);
+        Grain(stress)
     }
 
     // The first three fields as one number of 24 bits: yielded, three zero bits, tangent.

@@ -158,6 +158,12 @@ impl Grain {
         stress < 0
     }
 
+    pub fn at_most(self, other: Grain) -> bool
+        ensures { λ r. ⌜ r ≡ leZ (self .0) (other .0) ⌝ }
+    {
+        self.0 <= other.0
+    }
+
     // A magnitude with its sign put back.
     pub fn of(negative: bool, size: Magnitude) -> Grain
         requires { ⌜ size .0 < 2 ^ 63 ⌝ }
