@@ -10,8 +10,11 @@ use sheet::Sheet;
 use units::Nano;
 ghost use mathlib.Core.Path.{_≡_};
 ghost use mathlib.Core.Bool.{true};
+ghost use Prim.Native.Nat.{_+_, _*_, _≤_};
+ghost use lib.ListN.{length, take, drop};
 ghost use Rattle.refusals.specs.Table.{firstOf};
 ghost use Rattle.ranges.specs.Ranges.{temperatureRight};
+ghost use Rattle.pair.specs.Pairs.{pairLength};
 ghost use Rattle.sheet.specs.Sound.{SheetSound};
 ghost use Rattle.rod.specs.Steps.{advanceOf, stepRefusals};
 ghost use Rattle.rod.specs.Accepted.{PairAccepted};
@@ -104,5 +107,15 @@ impl Reached {
             return Tried::Refused(8);
         };
         self.trial(sheet, pair)
+    }
+
+    // Tries the pair of a list that comes after i others.
+    pub fn trial_at(self, sheet: Sheet, pairs: &[u8], i: usize) -> Tried
+        requires { ⌜ Stands sheet self × (pairLength * i + pairLength ≤ length (now pairs)) ⌝ }
+        ensures { λ r. ⌜ triedMeaning r ≡ withReached sheet (pairAnswer sheet (self .rod) (take pairLength (drop (pairLength * i) (now (pairs .entry))))) ⌝ }
+    {
+        let from = pair::PAIR_LENGTH * i;
+        let to = from + pair::PAIR_LENGTH;
+        self.trial_bytes(sheet, &pairs[from..to])
     }
 }
