@@ -9,6 +9,7 @@ use Rattle.rod.specs.declared.Rod.{Rod}
 use Rattle.state.specs.States.{stateRefusals, stateOf}
 use Rattle.rod.specs.Against.{againstRefusals}
 use Rattle.judge.specs.declared.Judged.{Judged}
+use Rattle.judge.specs.declared.Standing.{Standing}
 
 -- SPEC 8.9: a sheet and a rod that passed.
 pub record Ready : Type 0 where
@@ -30,3 +31,7 @@ standingRefusals sheet state = sheetRefusals sheet ++ holderRefusals (sheetOf sh
 -- SPEC 8.8: what judging a state answers: the number, or the sheet and the rod that passed.
 abbrev pub judgedMeaning : Sheet → Judged → Answer Ready
 judgedMeaning h j = numbered (j .number) (record { sheet = h; rod = j .reached .rod })
+
+-- and what judging a sheet and a state together does.
+abbrev pub standingMeaning : Standing → Answer Ready
+standingMeaning s = numbered (s .number) (record { sheet = s .sheet; rod = s .reached .rod })

@@ -17,11 +17,18 @@ ghost use Rattle.sheet.specs.Sheets.{verdictNumber};
 ghost use Rattle.sheet.specs.Sound.{SheetSound};
 ghost use Rattle.state.specs.States.{stateOf};
 ghost use Rattle.carry.specs.Reaching.{Stands};
-ghost use Rattle.judge.specs.Standing.{holderRefusals, judgedMeaning};
+ghost use Rattle.judge.specs.Standing.{holderRefusals, judgedMeaning, readyOf, standingMeaning, standingRefusals};
 
 // A refusal's number, or 0 with the rod that passed.
 pub struct Judged {
     pub number: u64,
+    pub reached: Reached,
+}
+
+// A sheet and a state judged together: a refusal's number, or 0 with what they hold.
+pub struct Standing {
+    pub number: u64,
+    pub sheet: Sheet,
     pub reached: Reached,
 }
 
@@ -87,5 +94,32 @@ pub fn judge_state(sheet: Sheet, state: &[u8]) -> Judged
         }
         StateRead::WrongLength => stopped(4),
         StateRead::OutOfRange => stopped(5),
+    }
+}
+
+// Refusals 1 to 6 and 13, of any bytes.
+pub fn judge(sheet: &[u8], state: &[u8]) -> Standing
+    ensures { λ r. ⌜ standingMeaning r ≡ firstOf (standingRefusals (now (sheet .entry)) (now (state .entry))) (readyOf (now (sheet .entry)) (now (state .entry))) ⌝ }
+    ensures stands { λ r. ⌜ (r .number ≡ 0 → Stands (r .sheet) (r .reached)) ⌝ }
+{
+    let read = sheet::read(sheet);
+    let verdict = read.verdict;
+    let values = read.sheet;
+    let author = sheet_number(verdict);
+    if author != 0 {
+        let blank = stopped(author);
+        let reached = blank.reached;
+        return Standing {
+            number: author,
+            sheet: values,
+            reached: reached,
+        };
+    }
+    let judged = judge_state(values, state);
+    let reached = judged.reached;
+    Standing {
+        number: judged.number,
+        sheet: values,
+        reached: reached,
     }
 }

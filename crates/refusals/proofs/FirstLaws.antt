@@ -6,6 +6,7 @@ use mathlib.Core.List.{List, [], _∷_, _++_, append-nil}
 use mathlib.Core.Logic.{inl, inr}
 use native.Mathlib.Omega.{arith}
 use borrow.Author.Tests.{eq-eqb, ne-eqb}
+use lib.Dec.{eqb}
 use Rattle.refusals.specs.Table.{Refusal, refusal, Answer, passes, refused, numbered, firstOf, NoneApplies, Given, Decided, Follows}
 
 pub refused-is-not-passes : {A : Type 0} (n : ℕ) (x : A) → refused n ≡ passes x → ⊥
@@ -119,6 +120,14 @@ refused-anyhow table v w n e = ap (λ (t : List Refusal). firstOf t w) (sym (app
 pub passes-anyhow : {A B : Type 0} (table : List Refusal) (v : A) (w : B) {x : A} → firstOf table v ≡ passes x → firstOf table w ≡ passes w
 unfolding firstOf
 passes-anyhow table v w e = ap (λ (t : List Refusal). firstOf t w) (sym (append-nil table)) ∙ goes-on table [] v w e
+
+-- A number that tells a table's answer tells it beside any value.
+pub told-anyhow : {A B : Type 0} (n : ℕ) (table : List Refusal) (v : A) (w : B) → numbered n v ≡ firstOf table v → numbered n w ≡ firstOf table w
+told-anyhow n table v w e = by-number (eqb n 0) refl
+  where
+    by-number : (b : Bool) → eqb n 0 ≡ b → cond b (passes w) (refused n) ≡ firstOf table w
+    by-number true is = sym (passes-anyhow table v w (sym e ∙ ap (λ (t : Bool). cond t (passes v) (refused n)) is))
+    by-number false is = sym (refused-anyhow table v w n (sym e ∙ ap (λ (t : Bool). cond t (passes v) (refused n)) is))
 
 -- ---- Answer and table say the same
 

@@ -1,0 +1,2 @@
+pub mod GradeLaws
+pub mod Numbers
