@@ -36,13 +36,18 @@ use Rattle.demands.specs.Lists.{stateAfter, acceptedIn, stateIn}
 use Rattle.demands.proofs.Splits.{take-pieces, history-passes, rows-back}
 use Rattle.demands.proofs.Demand1.{when-call, when-all, call-number, accepted-most, accepted-none, accepts, next-long, written-as, pairs-leave}
 
--- A list of j pairs, with room for j rows and a state, meets neither 7 nor 12.
+-- With room for j rows and a state a run of j pairs doesn't meet 12,
+pub roomy : (j rows next : ℕ) → rows ≡ rowLength * j → next ≡ stateLength → NoneApplies (bufferRefusals j rows next)
+unfolding bufferRefusals
+roomy j rows next q n = rw (q, n, le-ltb (rowLength * j) (rowLength * j) (omega arith)) (refl, tt)
+
+-- nor 7, where a list may have so many.
 roomy-run : (j pairs rows next : ℕ) → j ≤ mostPairs → pairs ≡ pairLength * j → rows ≡ rowLength * j → next ≡ stateLength → NoneApplies (lengthRefusals run pairs rows next)
-unfolding lengthRefusals listRefusals bufferRefusals
+unfolding lengthRefusals listRefusals
 roomy-run j pairs rows next few p q n =
     let count : pairLength * j / pairLength ≡ j = mul-div-right j (omega arith) in
     let whole : pairLength * j % pairLength ≡ 0 = mul-mod-right pairLength j in
-    rw (p, q, n, count, whole, le-ltb mostPairs j few, le-ltb (rowLength * j) (rowLength * j) (omega arith)) (refl, (refl, tt))
+    rw (p, count, whole, le-ltb mostPairs j few) (refl, roomy j rows next q n)
 
 -- With these bytes the sheet meets none of 1 to 6 and 13.
 pub standing-passes : (sheet : List ℕ) → firstOf (sheetRefusals sheet) (sheetOf sheet) ≡ passes (sheetOf sheet)

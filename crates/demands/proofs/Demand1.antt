@@ -35,9 +35,11 @@ use Rattle.tie_rod.specs.Calls.{Kind, single, run, Call, pieces, pieceAt, count
 use Rattle.tie_rod.proofs.PieceLaws.{length-pieces, pieces-around}
 use Rattle.tie_rod.proofs.Numbers.{standing-numbers, call-numbers}
 use Rattle.tie_rod.proofs.CallLaws.{lengths-pass, handed-whole, never-handed, standing-stops, call-stops, call-walked}
+use Rattle.grade.specs.Grades.{Grading}
 use Rattle.section.specs.declared.Member.{Member}
 use Rattle.section.specs.declared.Change.{Change}
 use Rattle.demands.specs.Lists.{acceptedBy, acceptedIn}
+use Rattle.demands.specs.Gradings.{GradingAnswered}
 use Rattle.demands.specs.Sections.{SectionAnswered}
 use Rattle.demands.specs.Demands.{Accepts, Reason, Untouched, Written, CallAnswered, Answered}
 use Rattle.demands.proofs.Splits.{split-front, split-next}
@@ -70,7 +72,7 @@ module _ (sheet state : List ℕ) (c : Call) where
   abbrev Some : ℕ → Type 0
   Some n = n ≡ 0 → ⊥
 
-  standing-number : {n : ℕ} → Given (standingRefusals sheet state) n → Some n
+  pub standing-number : {n : ℕ} → Given (standingRefusals sheet state) n → Some n
   standing-number g =
       answer-number Numbered (standingRefusals sheet state) ready (standing-numbers sheet state) (given-refused (standingRefusals sheet state) ready g) .0
 
@@ -378,15 +380,17 @@ module _ (sheet state : List ℕ) where
   unfolding unusedAnswer
   no-state n g = ap unusedLeft (given-refused (sheetRefusals sheet) (stateBytes (unusedOf (sheetOf sheet))) g)
 
-  -- What is claimed of sections is shown by SectionAnswers, which stands on this file.
-  pub all-answered : ((c : Change) (members : List Member) → SectionAnswered sheet c members) → Answered sheet state
+  -- What is claimed of gradings and of sections is shown by GradingAnswers and SectionAnswers, which stand on this file.
+  pub all-answered : ((g : Grading) → GradingAnswered sheet state g) → ((c : Change) (members : List Member) → SectionAnswered sheet c members)
+      → Answered sheet state
   unfolding forecastAnswer unusedAnswer
-  all-answered sections =
+  all-answered gradings sections =
       record {
         calls = call-answered sheet state;
         trials = trial-answered sheet state;
         keepings = keeping-answered sheet state;
         anything = λ trial next. anything-offered trial state next;
+        gradings = gradings;
         sections = sections;
         forecast-order = forecast-order;
         forecast = first-follows (standingRefusals sheet state) (forecastOf (sheetOf sheet) (stateOf state));

@@ -237,6 +237,8 @@ unused-made sheet {first} e =
 pub record AllWithin (sheet first : List ℕ) (sound : SheetSound (sheetOf sheet)) : Type 0 where
   pub lists : (list : List Operation) → AtEveryStop sheet sound (begins first) list
   pub moved-on : (list more : List Operation) → MovedOn sheet (afterAll sheet (begins first) list) more
+  -- one call more, behind any list
+  pub one-more : (list : List Operation) (c : Call) → AtCall sheet sound (afterAll sheet (begins first) list) c
 
 pub all-within : (sheet first : List ℕ) → unusedAnswer sheet ≡ passes first → (sound : SheetSound (sheetOf sheet)) × AllWithin sheet first sound
 all-within sheet first made =
@@ -248,5 +250,6 @@ all-within sheet first made =
           (record {
             lists = λ list. at-every-stop sheet passed sound list (begins (stateBytes (unusedOf (sheetOf sheet)))) begun;
             moved-on = λ list more. moved-on sheet passed sound (after-some sheet passed sound list begun) more;
+            one-more = λ list c. at-call sheet passed sound (after-some sheet passed sound list begun) c;
           }),
     )

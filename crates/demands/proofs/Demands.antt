@@ -13,6 +13,7 @@ use Rattle.demands.specs.Sections.{WithinFrom}
 use Rattle.demands.specs.Demands.{Answered, SolvedFrom}
 use Rattle.demands.proofs.Demand1.{all-answered}
 use Rattle.demands.proofs.Demand2.{all-solved}
+use Rattle.demands.proofs.GradingAnswers.{grading-answered}
 use Rattle.demands.proofs.SectionAnswers.{section-answered}
 use Rattle.demands.proofs.SectionLists.{within-from}
 
@@ -20,7 +21,7 @@ use Rattle.demands.proofs.SectionLists.{within-from}
 -- unused rod asked of them, are answered with the number and place that the tables give and with no others, and all that was lent is as the
 -- stage of the refusal says.
 pub demand-1 : (sheet state : List ℕ) → Answered sheet state
-demand-1 sheet state = all-answered sheet state (section-answered sheet)
+demand-1 sheet state = all-answered sheet state (grading-answered sheet state) (section-answered sheet)
 
 -- SPEC 9.12, 9.13, 16.9, demand 2: for any sheet and state that pass 1 to 6 and 13, reachable or not, each pair that a call or a trial
 -- accepts, or a keeping hands on, leaves the roundings of the one solution that the law's conditions have there, with the law's tangent.

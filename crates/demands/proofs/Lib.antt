@@ -2,9 +2,11 @@ pub mod Splits
 pub mod TrialAnswers
 pub mod Demand1
 pub mod Accepted
+pub mod GradingAnswers
 pub mod Singles
 pub mod Demand2
 pub mod Demand3
+pub mod GradingBounds
 pub mod LoneRods
 pub mod SectionAnswers
 pub mod SectionLists

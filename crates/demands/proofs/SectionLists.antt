@@ -17,9 +17,11 @@ use Rattle.section.specs.Sections.{memberPair, memberAnswer, withState, Move, S
 use Rattle.section.proofs.MovesLaws.{Pass, movesOf}
 use Rattle.tie_rod.specs.Calls.{Call, unusedAnswer}
 use Rattle.demands.specs.Lists.{Operation, carries, Situation, begins, afterCall, after, afterAll, Holds, AtEveryStop}
+use Rattle.demands.specs.Gradings.{ownRun}
 use Rattle.demands.specs.Sections.{Each, EachAfter, loneCall, loneCalls, SectionSituation, sectionBegins, afterSection, LikeLone, AtEverySection, WithinFrom}
 use Rattle.demands.proofs.Splits.{map-append}
 use Rattle.demands.proofs.Demand3.{all-within, unused-made}
+use Rattle.demands.proofs.GradingBounds.{at-grading}
 use Rattle.demands.proofs.LoneRods.{lone-after}
 use Rattle.demands.proofs.SectionAnswers.{kept-beside, without-number}
 
@@ -114,6 +116,7 @@ within-from sheet first made =
       record {
         lists = within;
         moved-on = all .moved-on;
+        gradings = λ list g. at-grading sheet sound (afterAll sheet (begins first) list) g (all .one-more list (ownRun g));
         sections = λ members are changes. at-every-section sheet sound first within passed members (sectionBegins members) changes (begin-like sheet sound first within passed members are);
       },
     )

@@ -30,10 +30,12 @@ use Rattle.carry.specs.Walk.{pairTable, lastRod, rowsOf, rowsBytes, History}
 use Rattle.judge.specs.Standing.{standingRefusals}
 use Rattle.tie_rod.specs.Calls.{Call, pieces, pieceAt, countIn, callRefusals, Left, partOf, callLeaves, tangentTold, forecastAnswer, unusedAnswer, unusedLeft}
 use Rattle.trial.specs.Trials.{Trial, trialLeaves, keepLeaves}
+use Rattle.grade.specs.Grades.{Grading}
 use Rattle.section.specs.declared.Member.{Member}
 use Rattle.section.specs.declared.Change.{Change}
 use Rattle.demands.specs.Lists.{stateAfter, acceptedIn, stateIn, rowIn, triedIn}
 use Rattle.demands.specs.Trials.{TrialAnswered, KeepingAnswered, AnythingOffered}
+use Rattle.demands.specs.Gradings.{GradingAnswered}
 use Rattle.demands.specs.Sections.{SectionAnswered}
 
 -- ---- Demand 1: the conditions
@@ -117,7 +119,7 @@ pub record CallAnswered (sheet state : List ℕ) (c : Call) : Type 0 where
 
 -- ---- Demand 1 whole
 
--- SPEC 9.11: every call, trial, keeping, section, forecast and unused rod, for any bytes as sheet and as state.
+-- SPEC 9.11: every call, trial, keeping, grading, section, forecast and unused rod, for any bytes as sheet and as state.
 pub record Answered (sheet state : List ℕ) : Type 0 where
   pub calls : (c : Call) → CallAnswered sheet state c
   -- SPEC 16.7: a trial, and every keeping of it, whatever state and buffer it is offered
@@ -125,6 +127,8 @@ pub record Answered (sheet state : List ℕ) : Type 0 where
   pub keepings : (t : Trial) (offered next : List ℕ) → KeepingAnswered sheet state t offered next
   -- SPEC 16.8: a keeping of any bytes at all
   pub anything : (trial next : List ℕ) → AnythingOffered trial state next
+  -- SPEC 17.7: a grading, whatever is graded
+  pub gradings : (g : Grading) → GradingAnswered sheet state g
   -- SPEC 15.8: a section, whatever its members' states
   pub sections : (c : Change) (members : List Member) → SectionAnswered sheet c members
   -- SPEC 9.8: a forecast follows the standing lines, and tells tangent 0 beside a number

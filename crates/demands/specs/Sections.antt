@@ -19,7 +19,9 @@ use Rattle.section.specs.declared.Member.{Member}
 use Rattle.section.specs.declared.Change.{Change}
 use Rattle.section.specs.Sections.{memberPair, memberTable, sectionRefusals, forceOf, momentOf, mostForce, mostMoment, sum, turnedAway, sectionLeaves}
 use Rattle.tie_rod.specs.Calls.{Call, call, single, callLeaves}
+use Rattle.grade.specs.Grades.{Grading}
 use Rattle.demands.specs.Lists.{Operation, carries, begins, afterAll, Holds, AtEveryStop, MovedOn}
+use Rattle.demands.specs.Gradings.{AtGrading}
 
 -- ---- Demand 1 for a section
 
@@ -152,5 +154,7 @@ module _ (sheet : List ℕ) where
       pub lists : (list : List Operation) → AtEveryStop sheet sound (begins unused) list
       -- SPEC 11.16: as soon as the rod has moved on, no trial from before can be kept
       pub moved-on : (list more : List Operation) → MovedOn sheet (afterAll sheet (begins unused) list) more
+      -- SPEC 17.8: a table graded from where any such list has come to; from the unused rod where the list is empty
+      pub gradings : (list : List Operation) (g : Grading) → AtGrading sheet sound (afterAll sheet (begins unused) list) g
       pub sections : (members : List Member) → Each (λ (m : Member). m .state ≡ unused) members
           → (changes : List Change) → AtEverySection members (sectionBegins members) changes

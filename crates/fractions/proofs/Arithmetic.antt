@@ -1,15 +1,16 @@
 -- SPEC 2.6, 2.8: every operation on fractions respects "the same number"; sums are monotone; "within k" is two inequalities.
-use mathlib.Core.Path.{_≡_, refl}
+use mathlib.Core.Path.{_≡_, refl, ap}
 use mathlib.Core.List.{[], _∷_}
 use mathlib.Core.Logic.{_↔_, _⊎_, inl, inr, ⊎-elim}
 use Prim.Native.Nat.{ℕ, _+_, _*_, _≤_, _<_}
 use native.Mathlib.Nat.{mul-le-mul-left, mul-lt-mul-of-pos-left, lt-of-mul-lt-mul-left, eq-of-mul-eq-mul-left}
 use native.Mathlib.Decide.{decLe}
 use native.Mathlib.Omega.{arith}
-use lib.IntN.{ℤ, pos, negℤ, natAbs, _+ℤ_, _-ℤ_}
+use lib.IntN.{ℤ, pos, negsuc, negℤ, natAbs, _+ℤ_, _-ℤ_}
+use lib.Signed.{_≤ℤ_, _<ℤ_}
 use Rattle.fractions.specs.Fraction.{Frac, _≤F_, _<F_, _≈F_, whole, _+F_, negF, _-F_, absF, signed, signedF, timesF, Within}
 use Rattle.fractions.proofs.Comparison.{≈F-refl, ≤F-cases}
-use Rattle.fractions.proofs.UpDown.{add-parts, sub-parts-ℤ}
+use Rattle.fractions.proofs.UpDown.{up, dn, abs-parts, add-parts, sub-parts-ℤ, le-parts, lt-parts}
 use Rattle.fractions.proofs.Common.{Is, is-own, is-same, is-scale, is-whole, is-whole-one, is-add, is-neg, is-sub, is-abs, is-signed-up, is-signed-dn, is-times, is-le, is-lt, is-eq, at-common}
 
 pub add-same : {w x y z : Frac} → w ≈F x → y ≈F z → (w +F y) ≈F (x +F z)
@@ -208,3 +209,41 @@ rest-of-sum x z b c =
     let first = is-whole x (i .some) in
     let sum = is-add first (is-whole z (i .some)) in
     is-eq (is-sub (is-sub (is-same (whole-add x z) sum) j) (is-sub first i)) (is-sub (is-add i (is-whole z (i .some))) j) .1 (omega arith))
+
+-- A whole number t within D of another one, which lies within k of x, is at most D + k away from x,
+pub close-through : {k : ℕ} (t z D : ℤ) {x : Frac} → pos (natAbs (t -ℤ z)) ≤ℤ D → Within k (whole z) x → absF (whole t -F x) ≤F whole (D +ℤ pos k)
+close-through {k} t z D {x} close h =
+    at-common (x ∷ [])
+    (λ d ((_, _, l), _).
+    let near = is-within k (is-whole z (l .some)) l .0 h in
+    is-le (is-abs (is-sub (is-whole t (l .some)) l)) (is-whole (D +ℤ pos k) (l .some)) .1
+    (omega (
+      arith,
+      near .above,
+      near .below,
+      ap (λ (n : ℕ). d * n) (sub-parts-ℤ t z),
+      ap (λ (n : ℕ). d * n) (abs-parts (t -ℤ z)),
+      ap (λ (n : ℕ). d * n) (add-parts D (pos k)),
+      mul-le-mul-left d (le-parts close),
+    )))
+
+-- and one that isn't within D is more than D - k away.
+pub far-through : {k : ℕ} (t z D : ℤ) {x : Frac} → D <ℤ pos (natAbs (t -ℤ z)) → Within k (whole z) x → whole (D -ℤ pos k) <F absF (whole t -F x)
+far-through {k} t z D {x} far h = by-part (one-side (t -ℤ z))
+  where
+    one-side : (y : ℤ) → (up y ≡ 0) ⊎ (dn y ≡ 0)
+    one-side (pos n) = inr refl
+    one-side (negsuc n) = inl refl
+
+    by-part : (up (t -ℤ z) ≡ 0) ⊎ (dn (t -ℤ z) ≡ 0) → whole (D -ℤ pos k) <F absF (whole t -F x)
+    by-part part =
+        at-common (x ∷ [])
+        (λ d ((_, _, l), _).
+        let near = is-within k (is-whole z (l .some)) l .0 h in
+        let difference = ap (λ (n : ℕ). d * n) (sub-parts-ℤ t z) in
+        let size = ap (λ (n : ℕ). d * n) (abs-parts (t -ℤ z)) in
+        let rest = ap (λ (n : ℕ). d * n) (sub-parts-ℤ D (pos k)) in
+        let more = mul-lt-mul-of-pos-left (lt-parts far) (l .some) in
+        is-lt (is-whole (D -ℤ pos k) (l .some)) (is-abs (is-sub (is-whole t (l .some)) l)) .1
+        (⊎-elim (λ e. omega (arith, near .above, near .below, difference, size, rest, more, ap (λ (n : ℕ). d * n) e))
+        (λ e. omega (arith, near .above, near .below, difference, size, rest, more, ap (λ (n : ℕ). d * n) e)) part))

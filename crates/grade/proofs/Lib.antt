@@ -1,2 +1,3 @@
 pub mod GradeLaws
 pub mod Numbers
+pub mod OffLaws

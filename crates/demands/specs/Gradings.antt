@@ -1,0 +1,113 @@
+-- What is claimed of gradings (SPEC 17.7, 17.8): their verdicts over the bytes that a run of the same pairs leaves, and over the bar without
+-- rounding; cited by proofs/Demands. Definitions only, over what a run leaves and never over the program; nothing is assumed.
+use Prim.Native.Nat.{ℕ, _+_, _*_, _<_}
+use mathlib.Core.Path.{_≡_}
+use mathlib.Core.List.{List, [], _∷_}
+use mathlib.Core.Logic.{_⊎_, _↔_}
+use lib.ListN.{length, replicate}
+use lib.IntN.{pos, natAbs, _+ℤ_, _-ℤ_}
+use lib.Signed.{_≤ℤ_}
+use Rattle.refusals.specs.Table.{NoneApplies, Given, numbersOf}
+use Rattle.fractions.specs.Fraction.{Frac, _≤F_, _<F_, whole, _-F_, absF}
+use Rattle.row.specs.Rows.{rowLength}
+use Rattle.sheet.specs.Sheets.{sheetOf}
+use Rattle.sheet.specs.Sound.{SheetSound}
+use Rattle.state.specs.States.{stateOf, stateLength}
+use Rattle.carry.specs.Walk.{yieldedRows}
+use Rattle.accuracy.specs.Bar.{barAfter}
+use Rattle.tie_rod.specs.Calls.{Call, call, run, countIn, bufferRefusals, Left, callLeaves}
+use Rattle.grade.specs.declared.Grade.{Grade}
+use Rattle.grade.specs.declared.Grade.the-variants as grades
+use Rattle.grade.specs.Grades.{Grading, stressAt, gradingRefusals, gradeOf}
+use Rattle.demands.specs.Lists.{Situation, stopIn}
+
+-- SPEC 17.7: the run of the pairs that are graded, with room for its rows and its state.
+abbrev pub ownRun : Grading → Call
+ownRun g = call run (g .pairs) (replicate (rowLength * countIn (g .pairs)) 0) (replicate stateLength 0)
+
+-- ---- Demand 1 for a grading
+
+module _ (sheet state : List ℕ) (g : Grading) where
+  -- SPEC 17.7: what that run leaves.
+  abbrev pub ran : Left
+  ran = callLeaves sheet state (ownRun g)
+
+  -- SPEC 17.7: in row j, counted from 0, their stress lies within the tolerance of the one that the run wrote.
+  abbrev pub Agrees : (j : ℕ) → Type 0
+  Agrees j = pos (natAbs (stressAt (g .rows) j -ℤ stressAt (ran .rows) j)) ≤ℤ g .tolerance
+
+  -- SPEC 17.7: why a verdict is as it is. The run is refused: its own number and place.
+  pub record ByRun (grade : Grade) : Type 0 where
+    pub refused : ran .reply .number ≡ 0 → ⊥
+    pub is : grade ≡ grades.Refused (ran .reply .number) (ran .reply .place)
+
+  -- It isn't, and 16 or 17 applies: place 0.
+  pub record ByTable (grade : Grade) : Type 0 where
+    pub accepted : ran .reply .number ≡ 0
+    pub number : ℕ
+    pub given : Given (gradingRefusals g) number
+    pub is : grade ≡ grades.Refused number 0
+
+  -- Neither does, and row j is the first that isn't within the tolerance; it is told from 1.
+  pub record ByRow (grade : Grade) : Type 0 where
+    pub accepted : ran .reply .number ≡ 0
+    pub own : NoneApplies (gradingRefusals g)
+    pub j : ℕ
+    pub there : j < countIn (g .pairs)
+    pub before : (i : ℕ) → i < j → Agrees i
+    pub off : Agrees j → ⊥
+    pub is : grade ≡ grades.Differs (j + 1)
+
+  -- Every row is within it.
+  pub record ByAll (grade : Grade) : Type 0 where
+    pub accepted : ran .reply .number ≡ 0
+    pub own : NoneApplies (gradingRefusals g)
+    pub each : (j : ℕ) → j < countIn (g .pairs) → Agrees j
+    pub is : grade ≡ grades.Accepted
+
+  -- One of these four, and there is no other way.
+  abbrev pub GradeReason : (grade : Grade) → Type 0
+  GradeReason grade = ByRun grade ⊎ (ByTable grade ⊎ (ByRow grade ⊎ ByAll grade))
+
+  -- SPEC 17.7: a verdict is given exactly where there is a reason for it.
+  pub record GradingAnswered : Type 0 where
+    pub own-order : numbersOf (gradingRefusals g) ≡ 16 ∷ 17 ∷ []
+    -- the run has room, so that 12 doesn't apply to it
+    pub no-12 : NoneApplies (bufferRefusals (countIn (g .pairs)) (length (ownRun g .rows)) (length (ownRun g .next)))
+    pub exactly : (grade : Grade) → (gradeOf sheet state g ≡ grade) ↔ GradeReason grade
+
+-- ---- Demand 3 for a grading
+
+-- What is graded from the state that a list has come to; for the unused rod itself the list is empty. `sound` says that the sheet passes.
+module _ (sheet : List ℕ) (sound : SheetSound (sheetOf sheet)) (s : Situation) (g : Grading) where
+  -- SPEC 17.8: the situation behind row j, counted from 0,
+  abbrev pub behind : (j : ℕ) → Situation
+  behind j = stopIn sheet s (ownRun g) (j + 1)
+
+  -- our rows up to it and with it that say that the rod yielded,
+  abbrev pub yieldedUpTo : (j : ℕ) → ℕ
+  yieldedUpTo j = yieldedRows (behind j .rows)
+
+  -- and how far their stress there lies from the exact one, that of the bar without rounding which is fed the same pairs.
+  abbrev pub awayAt : (j : ℕ) → Frac
+  awayAt j = absF (whole (stressAt (g .rows) j) -F barAfter (sheetOf sheet) sound (behind j .history) .stress)
+
+  -- SPEC 17.8: the k of a row is the one that our state behind it shows.
+  abbrev pub Counted : (j : ℕ) → Type 0
+  Counted j = stateOf (behind j .state) .«yielded_pairs» ≡ yieldedUpTo j
+
+  -- SPEC 17.8: at most d + k away,
+  pub record CloseAt (j : ℕ) : Type 0 where
+    pub counted : Counted j
+    pub close : awayAt j ≤F whole (g .tolerance +ℤ pos (yieldedUpTo j))
+
+  -- and more than d - k, which may be below 0.
+  pub record FarAt (j : ℕ) : Type 0 where
+    pub counted : Counted j
+    pub far : whole (g .tolerance -ℤ pos (yieldedUpTo j)) <F awayAt j
+
+  -- SPEC 17.8: every row of an accepted table is close, and so is each before the one that is named; that one is far.
+  pub record AtGrading : Type 0 where
+    pub accepted : gradeOf sheet (s .state) g ≡ grades.Accepted → (j : ℕ) → j < countIn (g .pairs) → CloseAt j
+    pub before : (row : ℕ) → gradeOf sheet (s .state) g ≡ grades.Differs row → (j : ℕ) → j + 1 < row → CloseAt j
+    pub named : (row : ℕ) → gradeOf sheet (s .state) g ≡ grades.Differs row → (j : ℕ) → j + 1 ≡ row → FarAt j
