@@ -17,6 +17,7 @@ demo:
 bench:
 	@sh checks/prove.sh staticlib tie_rod_c
 	@sh checks/prove.sh staticlib section_c
+	@sh checks/prove.sh staticlib grade_c
 	cd checks && CARGO_TARGET_DIR=$(CURDIR)/target/cargo cargo run -q --offline --profile speed --bin bench
 
 # The quick loop: proves what has changed since the last time.

@@ -24,7 +24,8 @@ quiet sh checks/papers
 
 sh checks/prove.sh staticlib tie_rod_c
 sh checks/prove.sh staticlib section_c
-archives="target/staticlib/libtie_rod_c.a target/staticlib/libsection_c.a"
+sh checks/prove.sh staticlib grade_c
+archives="target/staticlib/libtie_rod_c.a target/staticlib/libsection_c.a target/staticlib/libgrade_c.a"
 
 # What the archives export is what the header declares: its functions, but the
 # static ones, which are compiled where they are included.
@@ -51,6 +52,9 @@ for name in firmware solver; do
     "$out/$name" >"$out/$name.stdout"
     quiet diff "examples/$name.stdout" "$out/$name.stdout"
 done
+quiet $compile -std=c99 -pedantic -o "$out/grade" examples/grade.c target/staticlib/libgrade_c.a target/staticlib/libtie_rod_c.a
+"$out/grade" >"$out/grade.stdout"
+quiet diff examples/grade.stdout "$out/grade.stdout"
 quiet $compile -std=c11 -pedantic -o "$out/plate" examples/plate.c $archives
 "$out/plate" >"$out/plate.stdout"
 quiet diff examples/plate.stdout "$out/plate.stdout"
@@ -87,4 +91,4 @@ if [ "$passed" -eq 0 ] || [ "$passed" -ne "$written" ]; then
     echo "failed: $passed Rust tests passed, and checks/ has $written"
     exit 1
 fi
-echo "checks: $passed tests passed in $(($(date +%s) - start)) s; firmware, solver and plate print as stored; the archives export the header's functions and need only mem*"
+echo "checks: $passed tests passed in $(($(date +%s) - start)) s; firmware, solver, plate and grade print as stored; the archives export the header's functions and need only mem*"

@@ -25,6 +25,7 @@ static uint8_t rows[TIE_ROD_PAIRS_MAX * TIE_ROD_ROW_BYTES];
 static uint8_t next[TIE_ROD_STATE_BYTES];
 static uint8_t tried[TIE_ROD_TRIAL_BYTES];
 static struct tie_rod_member members[TIE_ROD_RODS_MAX];
+static uint64_t row;
 static uint64_t answer;
 
 static void nothing(void) {}
@@ -60,6 +61,12 @@ static void forecast(void)
 static void unused(void)
 {
     answer = tie_rod_unused(sheet, sheet_len, state);
+}
+
+/* Of the rows of the run before it. */
+static void grade(void)
+{
+    answer = tie_rod_grade(sheet, sheet_len, state, sizeof state, pairs, sizeof pairs, rows, sizeof rows, 0, &row);
 }
 
 /* Rods on both sides of the plate, pulled and pushed past their limits by turns, while the plate warms. */
@@ -175,6 +182,7 @@ static struct {
     {"trial", trial, MORE_BYTES, 0},
     {"keeping", keep, MOST_BYTES, 0},
     {"run of 4,096 pairs", run, MOST_BYTES, 0},
+    {"grading of 4,096 rows", grade, MOST_BYTES, 0},
     {"section of 32 rods", section, MORE_BYTES, 0},
 };
 
@@ -187,6 +195,10 @@ static int measure(int law)
         size_t bytes = depth(calls[i].call);
         if (tie_rod_number(answer) != TIE_ROD_ACCEPTED) {
             fprintf(stderr, "%s, law %d: refused with %u\n", calls[i].name, law, tie_rod_number(answer));
+            return 0;
+        }
+        if (row != 0) {
+            fprintf(stderr, "%s, law %d: row %d differs from the run's\n", calls[i].name, law, (int)row);
             return 0;
         }
         if (bytes > calls[i].most)

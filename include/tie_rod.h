@@ -4,10 +4,10 @@
  * This is the part of docs/SPEC.md that C needs; numbers such as (SPEC 3.7)
  * name its paragraphs.
  *
- * Link with libtie_rod_c.a, and with libsection_c.a for tie_rod_section. The
- * library has no heap, keeps nothing between calls, calls no operating system
- * and needs nothing but memcpy, memmove, memset and memcmp. Calls may run at
- * the same time on different buffers.
+ * Link with libtie_rod_c.a, with libsection_c.a for tie_rod_section, and with
+ * libgrade_c.a for tie_rod_grade. The library has no heap, keeps nothing between
+ * calls, calls no operating system and needs nothing but memcpy, memmove, memset
+ * and memcmp. Calls may run at the same time on different buffers.
  *
  * Buffers (SPEC 9.1, 9.10)
  *   A buffer is a pointer and a length in bytes. No bytes and no length can
@@ -108,12 +108,16 @@ extern "C" {
 #define TIE_ROD_OFFSET_MAX 1000
 #define TIE_ROD_MEAN_MAX 200000000
 #define TIE_ROD_CURVATURE_MAX 1000000
+/* The greatest tolerance of a grading, in grains; the least is 0. */
+#define TIE_ROD_TOLERANCE_MAX 1000000000000
 
 /*
  * The numbers (SPEC 8.2). A call answers the first of them that applies, in this
  * order: 1, 2, 3, 13, 4, 5, 6, then 7 and 12, then pair by pair 8, 9, 11 and 10.
  * A section: 1, 2, 3, 13, then 14, then rod by rod 5, 6, 8, 9, 11 and 10.
  * A keeping: 12, then 15.
+ * A grading: 1, 2, 3, 13, 4, 5, 6, 7, then pair by pair 8, 9, 11 and 10, then
+ * 16, then 17.
  */
 enum tie_rod_numbers {
     TIE_ROD_ACCEPTED = 0,
@@ -161,8 +165,12 @@ enum tie_rod_numbers {
                                    its range */
 
     /* For whoever keeps a trial. */
-    TIE_ROD_NOT_KEPT = 15     /* the state offered isn't the one that the trial started
+    TIE_ROD_NOT_KEPT = 15,    /* the state offered isn't the one that the trial started
                                  from, or the trial was itself refused */
+
+    /* For whoever sends the table and wants a verdict. */
+    TIE_ROD_TABLE_LENGTH = 16, /* the rows of the table aren't 16 bytes for each pair */
+    TIE_ROD_TOLERANCE = 17     /* the tolerance isn't 0 to 10^12 */
 };
 
 /*
@@ -341,15 +349,66 @@ uint64_t tie_rod_section(const uint8_t *sheet, size_t sheet_len,
                          int64_t mean, int64_t curvature, int64_t temperature,
                          int64_t *force, int64_t *moment);
 
-/* The number of an answer of any of the calls: 0 is accepted. */
+/*
+ * Grading another firm's table (SPEC 17): carries the rod over the pairs as
+ * tie_rod_run does, and holds each stress in `rows` against ours. `rows` is their
+ * table, a result row for each pair. Of each row the stress field alone is read:
+ * whatever bits stand beside it, they have no say.
+ *
+ * The table is accepted exactly when every stress of theirs is within `tolerance`
+ * grains of ours, |theirs - ours| <= tolerance. The tolerance is 0 to
+ * TIE_ROD_TOLERANCE_MAX; all 64 bits count.
+ *
+ * The answer is number + 256 * place. `row` has the verdict, and is written on
+ * every answer; nothing else is.
+ *
+ *   number        place       *row         what it says
+ *   0             0           0            the table is accepted
+ *   0             0           1 to 4,096   it isn't: the first row, from 1, whose
+ *                                          stress isn't within the tolerance
+ *   1 to 7, 13    0           0            what tie_rod_run answers
+ *   8 to 11       of a pair   0            what tie_rod_run answers: the refused
+ *                                          pair's own number, and its place from 1
+ *   16            0           0            rows_len isn't 16 bytes for each pair
+ *   17            0           0            the tolerance isn't in its range
+ *
+ * So a refusal is no verdict. A pair that is refused anywhere in the list goes
+ * before 16, before 17, and before every row that differs, however early: the
+ * verdict waits for the run's end. No buffer is lent for rows or for a next state,
+ * so there is no 12. An empty list with no rows is accepted.
+ *
+ * What a verdict means for an unused rod (SPEC 10, 17): d is the tolerance, k
+ * counts our own yielded rows up to a row and with it, and the exact stress is
+ * that of the rod which is carried on from the same start without any rounding.
+ *   accepted         each stress of the table is within d + k of the exact one
+ *   a row is named   its stress is more than d - k away from the exact one, and
+ *                    each stress before it is within d + k of its own exact one
+ * A d - k below 0 says nothing. To find k, run the pairs up to the row and with it
+ * by tie_rod_run: it is the k of the state that is handed back, its last 4 bytes.
+ *
+ * tie_rod_has_next and tie_rod_rows are not for this answer: the rod isn't moved
+ * on, and no row of ours is written. `row` is never NULL, and overlaps no buffer
+ * of the call.
+ */
+uint64_t tie_rod_grade(const uint8_t *sheet, size_t sheet_len,
+                       const uint8_t *state, size_t state_len,
+                       const uint8_t *pairs, size_t pairs_len,
+                       const uint8_t *rows, size_t rows_len,
+                       int64_t tolerance, uint64_t *row);
+
+/*
+ * The number of an answer of any of the calls: 0 is accepted, but of tie_rod_grade
+ * it says that there is a verdict, which is in its `row`.
+ */
 static inline unsigned tie_rod_number(uint64_t answer)
 {
     return (unsigned)(answer & 255u);
 }
 
 /*
- * The refused pair's place, from 1, in an answer of tie_rod_run, tie_rod_pair or
- * tie_rod_trial, or the refused rod's in one of tie_rod_section; else 0.
+ * The refused pair's place, from 1, in an answer of tie_rod_run, tie_rod_pair,
+ * tie_rod_trial or tie_rod_grade, or the refused rod's in one of tie_rod_section;
+ * else 0. The row that a grading names isn't here, but in its `row`.
  */
 static inline size_t tie_rod_place(uint64_t answer)
 {

@@ -9,6 +9,7 @@ pub mod bundle;
 pub mod call;
 pub mod fraction;
 pub mod generate;
+pub mod grade;
 pub mod layout;
 #[cfg(feature = "library")]
 pub mod library;
@@ -20,6 +21,7 @@ pub mod rules;
 pub mod section;
 pub mod solver;
 pub mod steer;
+pub mod table;
 pub mod trial;
 
 use call::{difference, Call, Outcome};

@@ -2,6 +2,7 @@
 //! between guard bytes, and what is only read is lent as it is.
 
 use crate::call::{Call, Entry, Outcome};
+use crate::grade;
 use crate::section::{self, Member, UNWRITTEN};
 use crate::trial::TRIAL_BYTES;
 
@@ -56,6 +57,18 @@ extern "C" {
         temperature: i64,
         force: *mut i64,
         moment: *mut i64,
+    ) -> u64;
+    fn tie_rod_grade(
+        sheet: *const u8,
+        sheet_len: usize,
+        state: *const u8,
+        state_len: usize,
+        pairs: *const u8,
+        pairs_len: usize,
+        rows: *const u8,
+        rows_len: usize,
+        tolerance: i64,
+        row: *mut u64,
     ) -> u64;
 }
 
@@ -118,6 +131,24 @@ pub fn section(
     let (rods, count) = (members.as_mut_ptr(), members.len());
     // SAFETY: as for `on_slices`; a member lies as the C struct does.
     unsafe { tie_rod_section(sheet.as_ptr(), sheet.len(), rods, count, mean, curvature, temperature, force, moment) }
+}
+
+pub fn grade(sheet: &[u8], state: &[u8], pairs: &[u8], rows: &[u8], tolerance: i64, row: &mut u64) -> u64 {
+    // SAFETY: as for `on_slices`.
+    unsafe {
+        tie_rod_grade(
+            sheet.as_ptr(),
+            sheet.len(),
+            state.as_ptr(),
+            state.len(),
+            pairs.as_ptr(),
+            pairs.len(),
+            rows.as_ptr(),
+            rows.len(),
+            tolerance,
+            row,
+        )
+    }
 }
 
 const GUARD: usize = 64;
@@ -250,4 +281,34 @@ pub fn section_call(call: &section::Call) -> section::Outcome {
     let [a, force, b, moment, c] = sums;
     assert!([a, b, c] == [UNWRITTEN; 3], "a byte beside force and moment was written\n{call}");
     section::Outcome { answer, force, moment, members: members[GUARD_MEMBERS..end].to_vec() }
+}
+
+/// The grading by the library. Panics, with the bytes, if it writes anything but the row.
+pub fn grade_call(call: &grade::Call) -> grade::Outcome {
+    let shift = call.sheet.len() + call.pairs.len() + call.rows.len() + call.tolerance as usize % 8;
+    let given = [&call.sheet, &call.state, &call.pairs, &call.rows];
+    let mut lent: [Guarded; 4] = std::array::from_fn(|i| Guarded::new(given[i], shift >> i));
+    let [sheet, state, pairs, rows] = &mut lent;
+    let mut around = [grade::UNWRITTEN; 3];
+    // SAFETY: each buffer is memory of its own, as long as the call is told.
+    let answer = unsafe {
+        tie_rod_grade(
+            sheet.pointer(),
+            sheet.len,
+            state.pointer(),
+            state.len,
+            pairs.pointer(),
+            pairs.len,
+            rows.pointer(),
+            rows.len,
+            call.tolerance,
+            &mut around[1],
+        )
+    };
+    assert!(lent.iter().all(Guarded::untouched_around), "a byte outside the buffers was written\n{call}");
+    let read_alone = lent.iter().zip(given).all(|(buffer, bytes)| buffer.bytes() == bytes);
+    assert!(read_alone, "a byte that is only read was written\n{call}");
+    let [before, row, behind] = around;
+    assert!([before, behind] == [grade::UNWRITTEN; 2], "a byte beside the row was written\n{call}");
+    grade::Outcome { answer, row }
 }

@@ -3,8 +3,10 @@
 //! plain / proved, above 1 where the proved one is faster; and what points of
 //! the expansion cost, proved time with them / proved time without. Then a
 //! section of 32 rods beside the same rods by a single pair each: nanoseconds a
-//! rod, and the ratio single pairs / section. Last a trial, and a trial with its
-//! keeping, beside a single pair: nanoseconds a pair, and the ratios to it.
+//! rod, and the ratio single pairs / section. Then a trial, and a trial with its
+//! keeping, beside a single pair: nanoseconds a pair, and the ratios to it. Last
+//! the grading of a table beside the run on the same input: nanoseconds a pair,
+//! and the ratio grading / run.
 
 use checks::generate::{self, sheet_bytes};
 use checks::layout;
@@ -145,6 +147,7 @@ fn main() {
     }
     print_sections(&only);
     print_trials(&only);
+    print_grades(&only);
 }
 
 /// The times of the two versions; where the sheet has points, with the proved time without them.
@@ -384,4 +387,70 @@ fn print_trial(label: &str, sheet: &[u8], pairs: &[u8]) {
         format!("{pair:8.2} {trial:8.2} {:6.2} {kept:8.2} {:6.2}", trial / pair, kept / pair)
     });
     println!("{label:50} {:>4} % {}", flows(sheet, pairs), times.join(" "));
+}
+
+// ---- gradings ----
+
+type Grade = fn(&[u8], &[u8], &[u8], &[u8], i64, &mut u64) -> u64;
+
+/// The grading of a table that is accepted, each row of it being compared.
+fn graded(grade: Grade, sheet: &[u8], state: &[u8], pairs: &[u8], table: &[u8]) {
+    let mut row = 1;
+    let answer = grade(black_box(sheet), black_box(state), black_box(pairs), black_box(table), 0, &mut row);
+    assert_eq!((answer, row), (0, 0));
+}
+
+/// The least nanoseconds a pair, proved and plain: of a run and of the grading of its rows, in turns.
+fn measure_grades(sheet: &[u8], pairs: &[u8]) -> [[f64; 2]; 2] {
+    let versions: [(Carry, Grade); 2] = [(library::run, library::grade), (plain::run, plain::grade)];
+    let state = generate::unused_state(sheet);
+    let (mut rows, mut next) = (vec![0; 16 * PAIRS], vec![0; 37]);
+    whole(plain::run, sheet, &state, pairs, &mut rows, &mut next);
+    let table = rows.clone();
+    let mut least = [[f64::INFINITY; 2]; 2];
+    for _ in 0..ROUNDS {
+        for ((run, grade), least) in versions.into_iter().zip(&mut least) {
+            for (which, least) in least.iter_mut().enumerate() {
+                let start = Instant::now();
+                for _ in 0..RUNS_A_ROUND {
+                    match which {
+                        0 => whole(black_box(run), sheet, &state, pairs, &mut rows, &mut next),
+                        _ => graded(black_box(grade), sheet, &state, pairs, &table),
+                    }
+                }
+                *least = least.min(start.elapsed().as_nanos() as f64 / (RUNS_A_ROUND * PAIRS) as f64);
+            }
+        }
+    }
+    assert!(rows == table, "the two versions write different rows");
+    least
+}
+
+/// The lines about gradings that hold the text.
+fn print_grades(only: &str) {
+    println!();
+    println!("gradings of {PAIRS} rows, ours being the table, nanoseconds a pair, the least of {ROUNDS} rounds");
+    println!("run: the run of the same pairs; ratio grading / run; proved, and then plain");
+    println!("last: plain grading / proved grading");
+    let [flows, run, grading, ratio] = ["flows", "run", "grading", "ratio"];
+    let version = format!("{run:>8} {grading:>8} {ratio:>6}");
+    println!("{:50} {flows:>6} {version} {version}   last", "");
+    for (sheet_name, sheet) in &sheets() {
+        let pointed = with_points(sheet.clone(), &POINTS);
+        for (points, sheet) in [("", sheet), ("8 points, ", &pointed)] {
+            for (input, pairs) in [("cycles", cycles()), ("mixed", mixed(sheet))] {
+                let label = format!("grading, {sheet_name}, {points}{input}");
+                if label.contains(only) {
+                    print_grade(&label, sheet, &pairs);
+                }
+            }
+        }
+    }
+}
+
+fn print_grade(label: &str, sheet: &[u8], pairs: &[u8]) {
+    let times = measure_grades(sheet, pairs);
+    let columns = times.map(|[run, grading]| format!("{run:8.2} {grading:8.2} {:6.2}", grading / run));
+    let [[_, proved], [_, plain]] = times;
+    println!("{label:50} {:>4} % {} {:6.2}", flows(sheet, pairs), columns.join(" "), plain / proved);
 }
