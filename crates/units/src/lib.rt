@@ -161,7 +161,8 @@ impl Grain {
     pub fn at_most(self, other: Grain) -> bool
         ensures { λ r. ⌜ r ≡ leZ (self .0) (other .0) ⌝ }
     {
-        self.0 <= other.0
+        let stress = self.0;
+        stress <= other.0
     }
 
     // A magnitude with its sign put back.
