@@ -23,11 +23,9 @@ use Rattle.carry.specs.Walk.{Walk, rowsOf, walk}
 use Rattle.carry.proofs.Walks.{walk-all}
 use Rattle.judge.specs.Standing.{readyOf, standingRefusals}
 use Rattle.tie_rod.specs.Calls.{run, Call, pieces, countIn, pairsIn, bufferRefusals, lengthRefusals, callRefusals, Left, callLeaves, placeOf, stopped}
-use Rattle.grade.specs.declared.Grade.{Grade}
-use Rattle.grade.specs.declared.Grade.the-variants as grades
-use Rattle.grade.specs.Grades.{Grading, stressAt, agrees, firstOff, gradeAt, gradingRefusals, gradeBy, gradeWalked, gradeOf}
+use Rattle.grade.specs.Grades.{Grading, stressAt, agrees, firstOutside, Verdict, verdict, gradingRefusals, verdictBy, verdictOn, gradeOf}
 use Rattle.grade.proofs.GradeLaws.{standing-stops, list-stops, list-walked, walked-refused, walked-last}
-use Rattle.grade.proofs.OffLaws.{firstWhere, AllNear, OneOff, none-off, first-is-off, near-or-off, first-in-bytes}
+use Rattle.grade.proofs.OutsideLaws.{firstWhere, AllNear, OneOutside, none-outside, first-is-outside, near-or-outside, first-in-bytes}
 use Rattle.demands.specs.Lists.{acceptedBy, acceptedIn}
 use Rattle.demands.specs.Gradings.{ownRun, ran, Agrees, ByRun, ByTable, ByRow, ByAll, GradeReason, GradingAnswered}
 use Rattle.demands.proofs.Demand1.{when-standing, when-call, when-walked, standing-number, call-number}
@@ -96,37 +94,34 @@ module _ (sheet state : List ℕ) (g : Grading) where
 
   -- The rows of a run that isn't refused are those of its walk.
   first-is : NoneApplies (standingRefusals sheet state) → leaves .reply .number ≡ 0
-      → firstOff (g .tolerance) (g .rows) 0 (rowsOf (walked .advances)) ≡ firstWhere near 0 count
+      → firstOutside (g .tolerance) (g .rows) 0 (rowsOf (walked .advances)) ≡ firstWhere near 0 count
   unfolding acceptedIn
   first-is standing none =
       let all : acceptedIn sheet state c ≡ count = rw (eq-eqb (leaves .reply .number) 0 none) refl in
       let u = upto sheet state standing c count (omega (arith, all)) in
-      ap (λ (w : Walk). firstOff (g .tolerance) (g .rows) 0 (rowsOf (w .advances))) (walk-all h r (pairsIn (g .pairs)) (u .advances) (u .history))
-      ∙ ap (firstOff (g .tolerance) (g .rows) 0) (sym (u .rows)) ∙ first-in-bytes (g .tolerance) (g .rows) (leaves .rows) 0 count
-
-  named-at : (j : ℕ) → gradeAt (j + 1) ≡ grades.Differs (j + 1)
-  named-at j = rw (ne-eqb (j + 1) 0 (λ z. omega (arith, z)))
+      ap (λ (w : Walk). firstOutside (g .tolerance) (g .rows) 0 (rowsOf (w .advances))) (walk-all h r (pairsIn (g .pairs)) (u .advances) (u .history))
+      ∙ ap (firstOutside (g .tolerance) (g .rows) 0) (sym (u .rows)) ∙ first-in-bytes (g .tolerance) (g .rows) (leaves .rows) 0 count
 
   -- ---- What the verdict comes to
 
   -- The run is refused, and so is the grading; or neither is, and the rows decide, once 16 and 17 don't apply.
   pub record Refused : Type 0 where
     pub some : leaves .reply .number ≡ 0 → ⊥
-    pub is : gradeOf sheet state g ≡ grades.Refused (leaves .reply .number) (leaves .reply .place)
+    pub is : gradeOf sheet state g ≡ verdict (leaves .reply .number) (leaves .reply .place) 0
 
   pub record Compared : Type 0 where
     pub standing : NoneApplies (standingRefusals sheet state)
     pub none : leaves .reply .number ≡ 0
-    pub is : gradeOf sheet state g ≡ gradeBy (firstOf (gradingRefusals g) (gradeAt (firstWhere near 0 count)))
+    pub is : gradeOf sheet state g ≡ verdictBy (firstOf (gradingRefusals g) (verdict 0 0 (firstWhere near 0 count)))
 
   pub came : Refused ⊎ Compared
   came = by-standing (decides (standingRefusals sheet state))
     where
-      stops : {n : ℕ} (back : List ℕ) → (n ≡ 0 → ⊥) → leaves ≡ stopped n back c → gradeOf sheet state g ≡ grades.Refused n 0 → Refused ⊎ Compared
+      stops : {n : ℕ} (back : List ℕ) → (n ≡ 0 → ⊥) → leaves ≡ stopped n back c → gradeOf sheet state g ≡ verdict n 0 0 → Refused ⊎ Compared
       stops {n} back some e is =
           inl (record {
             some = λ z. some (sym (ap (λ (l : Left). l .reply .number) e) ∙ z);
-            is = is ∙ ap (λ (l : Left). grades.Refused (l .reply .number) (l .reply .place)) (sym e);
+            is = is ∙ ap (λ (l : Left). verdict (l .reply .number) (l .reply .place) 0) (sym e);
           })
 
       by-walk : NoneApplies (standingRefusals sheet state) → NoneApplies (listRefusals (length (g .pairs))) → Refused ⊎ Compared
@@ -138,7 +133,7 @@ module _ (sheet state : List ℕ) (g : Grading) where
           place : leaves .reply .place ≡ placeOf walked
           place = ap (λ (l : Left). l .reply .place) (when-walked sheet state c none (list-passes own))
 
-          is-walked : gradeOf sheet state g ≡ gradeWalked g walked
+          is-walked : gradeOf sheet state g ≡ verdictOn g walked
           is-walked = list-walked sheet state g (none-passes (standingRefusals sheet state) (readyOf sheet state) none) (none-passes (listRefusals (length (g .pairs))) count own)
 
           by-number : (b : Bool) → eqb (walked .number) 0 ≡ b → Refused ⊎ Compared
@@ -146,11 +141,11 @@ module _ (sheet state : List ℕ) (g : Grading) where
               let some : (walked .number ≡ 0 → ⊥) = eqb-false (walked .number) 0 e in
               inl (record {
                 some = λ z. some (sym went ∙ z);
-                is = is-walked ∙ walked-refused g walked some ∙ (λ i. grades.Refused (sym went i) (sym place i));
+                is = is-walked ∙ walked-refused g walked some ∙ (λ i. verdict (sym went i) (sym place i) 0);
               })
           by-number true e =
               let nought = eqb-true (walked .number) 0 e in
-              inr (record { standing = none; none = went ∙ nought; is = is-walked ∙ walked-last g walked nought ∙ ap (λ (k : ℕ). gradeBy (firstOf (gradingRefusals g) (gradeAt k))) (first-is none (went ∙ nought)) })
+              inr (record { standing = none; none = went ∙ nought; is = is-walked ∙ walked-last g walked nought ∙ ap (λ (k : ℕ). verdictBy (firstOf (gradingRefusals g) (verdict 0 0 k))) (first-is none (went ∙ nought)) })
 
       by-list : NoneApplies (standingRefusals sheet state)
           → ((n : ℕ) × Given (listRefusals (length (g .pairs))) n) ⊎ NoneApplies (listRefusals (length (g .pairs))) → Refused ⊎ Compared
@@ -167,19 +162,16 @@ module _ (sheet state : List ℕ) (g : Grading) where
 
   -- ---- The reasons
 
-  abbrev decided : Grade
-  decided = gradeBy (firstOf (gradingRefusals g) (gradeAt (firstWhere near 0 count)))
-
   own-reason : GradeReason sheet state g (gradeOf sheet state g)
   own-reason = by-came came
     where
-      by-rows : (x : Compared) → NoneApplies (gradingRefusals g) → AllNear near 0 (0 + count) ⊎ OneOff near 0 count → GradeReason sheet state g (gradeOf sheet state g)
+      by-rows : (x : Compared) → NoneApplies (gradingRefusals g) → AllNear near 0 (0 + count) ⊎ OneOutside near 0 count → GradeReason sheet state g (gradeOf sheet state g)
       by-rows x own (inl all) =
           inr (inr (inr (record {
             accepted = x .none;
             own = own;
             each = λ j there. agree j (all j (omega arith) (omega arith));
-            is = x .is ∙ ap gradeBy (none-passes (gradingRefusals g) _ own) ∙ ap gradeAt (none-off near 0 count all);
+            is = x .is ∙ ap verdictBy (none-passes (gradingRefusals g) _ own) ∙ ap (verdict 0 0) (none-outside near 0 count all);
           })))
       by-rows x own (inr one) =
           inr (inr (inl (record {
@@ -188,36 +180,36 @@ module _ (sheet state : List ℕ) (g : Grading) where
             j = one .at;
             there = omega (arith, one .there);
             before = λ i less. agree i (one .before i (omega arith) less);
-            off = off-not (one .at) (one .off);
-            is = x .is ∙ ap gradeBy (none-passes (gradingRefusals g) _ own) ∙ ap gradeAt (first-is-off near 0 count one) ∙ named-at (one .at);
+            outside = off-not (one .at) (one .outside);
+            is = x .is ∙ ap verdictBy (none-passes (gradingRefusals g) _ own) ∙ ap (verdict 0 0) (first-is-outside near 0 count one);
           })))
 
       by-table : (x : Compared) → ((n : ℕ) × Given (gradingRefusals g) n) ⊎ NoneApplies (gradingRefusals g) → GradeReason sheet state g (gradeOf sheet state g)
       by-table x (inl (n, given)) =
-          inr (inl (record { accepted = x .none; number = n; given = given; is = x .is ∙ ap gradeBy (given-refused (gradingRefusals g) _ given) }))
-      by-table x (inr own) = by-rows x own (near-or-off near 0 count)
+          inr (inl (record { accepted = x .none; number = n; given = given; is = x .is ∙ ap verdictBy (given-refused (gradingRefusals g) _ given) }))
+      by-table x (inr own) = by-rows x own (near-or-outside near 0 count)
 
       by-came : Refused ⊎ Compared → GradeReason sheet state g (gradeOf sheet state g)
       by-came (inl x) = inl (record { refused = x .some; is = x .is })
       by-came (inr x) = by-table x (decides (gradingRefusals g))
 
-  only-reason : (grade : Grade) → GradeReason sheet state g grade → gradeOf sheet state g ≡ grade
-  only-reason grade reason = by-came came reason
+  only-reason : (v : Verdict) → GradeReason sheet state g v → gradeOf sheet state g ≡ v
+  only-reason v reason = by-came came reason
     where
-      by-came : Refused ⊎ Compared → GradeReason sheet state g grade → gradeOf sheet state g ≡ grade
+      by-came : Refused ⊎ Compared → GradeReason sheet state g v → gradeOf sheet state g ≡ v
       by-came (inl x) (inl w) = x .is ∙ sym (w .is)
       by-came (inl x) (inr (inl w)) = absurd (x .some (w .accepted))
       by-came (inl x) (inr (inr (inl w))) = absurd (x .some (w .accepted))
       by-came (inl x) (inr (inr (inr w))) = absurd (x .some (w .accepted))
       by-came (inr x) (inl w) = absurd (w .refused (x .none))
-      by-came (inr x) (inr (inl w)) = x .is ∙ ap gradeBy (given-refused (gradingRefusals g) _ (w .given)) ∙ sym (w .is)
+      by-came (inr x) (inr (inl w)) = x .is ∙ ap verdictBy (given-refused (gradingRefusals g) _ (w .given)) ∙ sym (w .is)
       by-came (inr x) (inr (inr (inl w))) =
-          let one : OneOff near 0 count =
-          record { at = w .j; from = omega arith; there = omega (arith, w .there); before = λ i from less. nears i (w .before i less); off = offs (w .j) (w .off) } in
-          x .is ∙ ap gradeBy (none-passes (gradingRefusals g) _ (w .own)) ∙ ap gradeAt (first-is-off near 0 count one) ∙ named-at (w .j) ∙ sym (w .is)
+          let one : OneOutside near 0 count =
+          record { at = w .j; from = omega arith; there = omega (arith, w .there); before = λ i from less. nears i (w .before i less); outside = offs (w .j) (w .outside) } in
+          x .is ∙ ap verdictBy (none-passes (gradingRefusals g) _ (w .own)) ∙ ap (verdict 0 0) (first-is-outside near 0 count one) ∙ sym (w .is)
       by-came (inr x) (inr (inr (inr w))) =
-          x .is ∙ ap gradeBy (none-passes (gradingRefusals g) _ (w .own))
-          ∙ ap gradeAt (none-off near 0 count (λ j from there. nears j (w .each j (omega arith)))) ∙ sym (w .is)
+          x .is ∙ ap verdictBy (none-passes (gradingRefusals g) _ (w .own))
+          ∙ ap (verdict 0 0) (none-outside near 0 count (λ j from there. nears j (w .each j (omega arith)))) ∙ sym (w .is)
 
   own-order : numbersOf (gradingRefusals g) ≡ 16 ∷ 17 ∷ []
   unfolding gradingRefusals
@@ -228,5 +220,5 @@ module _ (sheet state : List ℕ) (g : Grading) where
       record {
         own-order = own-order;
         no-12 = no-12;
-        exactly = λ grade. ((λ e. subst (GradeReason sheet state g) e own-reason), only-reason grade);
+        exactly = λ v. ((λ e. subst (GradeReason sheet state g) e own-reason), only-reason v);
       }

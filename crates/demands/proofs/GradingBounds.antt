@@ -12,6 +12,8 @@ use lib.IntN.{ℤ, pos, natAbs, _-ℤ_}
 use lib.Signed.{ltZ, _≤ℤ_, _<ℤ_, leZ-yes, ltZ-yes}
 use Rattle.fractions.specs.Fraction.{whole, Within}
 use Rattle.fractions.proofs.Arithmetic.{close-through, far-through}
+use Rattle.refusals.specs.Table.{Given}
+use Rattle.refusals.proofs.FirstLaws.{Numbered, answer-number, given-refused}
 use Rattle.bits.proofs.SignLaws.{leZ-is-not-ltZ}
 use Rattle.units.specs.declared.Grain.{Grain}
 use Rattle.row.specs.declared.Row.{Row}
@@ -25,9 +27,8 @@ use Rattle.accuracy.specs.Within.{LastRowShows}
 use Rattle.accuracy.specs.Bar.{barAfter}
 use Rattle.tie_rod.specs.Calls.{pieces, pieceAt, countIn, callLeaves}
 use Rattle.tie_rod.proofs.PieceLaws.{pieces-then}
-use Rattle.grade.specs.declared.Grade.{Grade}
-use Rattle.grade.specs.declared.Grade.the-variants as grades
-use Rattle.grade.specs.Grades.{Grading, stressAt, gradeOf}
+use Rattle.grade.specs.Grades.{Grading, stressAt, Verdict, verdict, gradingRefusals, gradeOf}
+use Rattle.grade.proofs.Numbers.{grading-numbers}
 use Rattle.demands.specs.Lists.{Situation, acceptedBy, acceptedIn, Holds, AtCall}
 use Rattle.demands.specs.Gradings.{ownRun, ran, Agrees, GradeReason, behind, yieldedUpTo, CloseAt, FarAt, AtGrading}
 use Rattle.demands.proofs.Splits.{map-append}
@@ -47,19 +48,6 @@ not-at-most a b more = by-test (ltZ b a) refl
     by-test true e = ltZ-yes (subst T (sym e) tt)
     by-test false e = absurd (more (leZ-yes (subst T (sym (leZ-is-not-ltZ b a ∙ ap not e)) tt)))
 
--- The cases of a verdict are apart.
-accepted-not-refused : {n place : ℕ} → grades.Accepted ≡ grades.Refused n place → ⊥
-accepted-not-refused e = let z : _≡_ {A = ℕ} 0 1 = cc in omega arith
-
-accepted-not-row : {row : ℕ} → grades.Accepted ≡ grades.Differs row → ⊥
-accepted-not-row e = let z : _≡_ {A = ℕ} 0 1 = cc in omega arith
-
-row-not-refused : {row n place : ℕ} → grades.Differs row ≡ grades.Refused n place → ⊥
-row-not-refused e = let z : _≡_ {A = ℕ} 0 1 = cc in omega arith
-
-same-row : {row other : ℕ} → grades.Differs row ≡ grades.Differs other → row ≡ other
-same-row e = cc
-
 module _ (sheet : List ℕ) (sound : SheetSound (sheetOf sheet)) (s : Situation) (g : Grading) (at : AtCall sheet sound s (ownRun g)) where
   abbrev state : List ℕ
   state = s .state
@@ -69,71 +57,90 @@ module _ (sheet : List ℕ) (sound : SheetSound (sheetOf sheet)) (s : Situation)
 
   module _ (accepted : ran sheet state g .reply .number ≡ 0) (j : ℕ) (there : j < countIn (g .pairs)) where
     -- All of demand 3 holds behind row j,
-    stop : Holds sheet sound (behind sheet sound s g j)
+    stop : Holds sheet sound (behind sheet s g j)
     unfolding acceptedIn
     stop =
         let all : acceptedIn sheet state (ownRun g) ≡ countIn (g .pairs) = rw (eq-eqb (ran sheet state g .reply .number) 0 accepted) refl in
         at .stops (j + 1) (omega (arith, all))
 
     -- whose stress is the state's there.
-    shown : ours j ≡ stateOf (behind sheet sound s g j .state) .stress .0
+    shown : ours j ≡ stateOf (behind sheet s g j .state) .stress .0
     shown =
         let rows = ran sheet state g .rows in
         let before = map rowOf (pieces rowLength j rows) in
         let row = rowOf (pieceAt rowLength j rows) in
-        let last : behind sheet sound s g j .rows ≡ (s .rows ++ before) ++ (row ∷ []) =
+        let last : behind sheet s g j .rows ≡ (s .rows ++ before) ++ (row ∷ []) =
         ap (λ (l : List (List ℕ)). s .rows ++ map rowOf l) (pieces-then rowLength j rows)
         ∙ ap (λ (l : List Row). s .rows ++ l) (map-append rowOf (pieces rowLength j rows) (pieceAt rowLength j rows ∷ []))
         ∙ sym (append-assoc (s .rows) before (row ∷ [])) in
-        let rod = stateOf (behind sheet sound s g j .state) in
+        let rod = stateOf (behind sheet s g j .state) in
         ap (λ (x : Grain). x .0) (last-shows (sheetOf sheet) (s .rows ++ before) row rod (subst (λ (l : List Row). LastRowShows (sheetOf sheet) l rod) last (stop .within .row-shows)))
 
-    near-bar : Within (yieldedUpTo sheet sound s g j) (whole (ours j)) (barAfter (sheetOf sheet) sound (behind sheet sound s g j .history) .stress)
-    near-bar = subst (λ (z : ℤ). Within (yieldedUpTo sheet sound s g j) (whole z) (barAfter (sheetOf sheet) sound (behind sheet sound s g j .history) .stress)) (sym shown) (stop .within .within .stress)
+    near-bar : Within (yieldedUpTo sheet s g j) (whole (ours j)) (barAfter (sheetOf sheet) sound (behind sheet s g j .history) .stress)
+    near-bar = subst (λ (z : ℤ). Within (yieldedUpTo sheet s g j) (whole z) (barAfter (sheetOf sheet) sound (behind sheet s g j .history) .stress)) (sym shown) (stop .within .within .stress)
 
-    close-at : Agrees sheet state g j → CloseAt sheet sound s g j
+    close-at : Agrees sheet state g j → CloseAt sheet s g sound j
     close-at agrees = record { counted = stop .within .k-counted; close = close-through (stressAt (g .rows) j) (ours j) (g .tolerance) agrees near-bar }
 
-    far-at : (Agrees sheet state g j → ⊥) → FarAt sheet sound s g j
+    far-at : (Agrees sheet state g j → ⊥) → FarAt sheet s g sound j
     far-at off =
         record {
           counted = stop .within .k-counted;
           far = far-through (stressAt (g .rows) j) (ours j) (g .tolerance) (not-at-most (pos (natAbs (stressAt (g .rows) j -ℤ ours j))) (g .tolerance) off) near-bar;
         }
 
-  reason : {grade : Grade} → gradeOf sheet state g ≡ grade → GradeReason sheet state g grade
-  reason {grade} e = grading-answered sheet state g .exactly grade .0 e
+  reason : {v : Verdict} → gradeOf sheet state g ≡ v → GradeReason sheet state g v
+  reason {v} e = grading-answered sheet state g .exactly v .0 e
 
-  all-close : gradeOf sheet state g ≡ grades.Accepted → (j : ℕ) → j < countIn (g .pairs) → CloseAt sheet sound s g j
+  -- A verdict without a number comes from the rows,
+  numberless : {row n place : ℕ} → verdict 0 0 row ≡ verdict n place 0 → n ≡ 0
+  numberless e = sym (ap (λ (v : Verdict). v .number) e)
+
+  no-own : {n : ℕ} → Given (gradingRefusals g) n → n ≡ 0 → ⊥
+  no-own given = answer-number Numbered (gradingRefusals g) g (grading-numbers g) (given-refused (gradingRefusals g) g given) .0
+
+  -- and says which of them.
+  same-row : {row other : ℕ} → verdict 0 0 row ≡ verdict 0 0 other → row ≡ other
+  same-row e = ap (λ (v : Verdict). v .row) e
+
+  all-close : gradeOf sheet state g ≡ verdict 0 0 0 → (j : ℕ) → j < countIn (g .pairs) → CloseAt sheet s g sound j
   all-close e j there = by-reason (reason e)
     where
-      by-reason : GradeReason sheet state g grades.Accepted → CloseAt sheet sound s g j
-      by-reason (inl w) = absurd (accepted-not-refused (w .is))
-      by-reason (inr (inl w)) = absurd (accepted-not-refused (w .is))
-      by-reason (inr (inr (inl w))) = absurd (accepted-not-row (w .is))
+      by-reason : GradeReason sheet state g (verdict 0 0 0) → CloseAt sheet s g sound j
+      by-reason (inl w) = absurd (w .refused (numberless (w .is)))
+      by-reason (inr (inl w)) = absurd (no-own (w .given) (numberless (w .is)))
+      by-reason (inr (inr (inl w))) = absurd (omega (arith, same-row (w .is)))
       by-reason (inr (inr (inr w))) = close-at (w .accepted) j there (w .each j there)
 
-  before-close : (row : ℕ) → gradeOf sheet state g ≡ grades.Differs row → (j : ℕ) → j + 1 < row → CloseAt sheet sound s g j
-  before-close row e j less = by-reason (reason e)
-    where
-      by-reason : GradeReason sheet state g (grades.Differs row) → CloseAt sheet sound s g j
-      by-reason (inl w) = absurd (row-not-refused (w .is))
-      by-reason (inr (inl w)) = absurd (row-not-refused (w .is))
-      by-reason (inr (inr (inl w))) =
-          let this = same-row (w .is) in
-          close-at (w .accepted) j (omega (arith, this, w .there)) (w .before j (omega (arith, this)))
-      by-reason (inr (inr (inr w))) = absurd (accepted-not-row (sym (w .is)))
+  module _ (j : ℕ) (e : gradeOf sheet state g ≡ verdict 0 0 (j + 1)) where
+    -- The row that is named is the reason's.
+    record Named : Type 0 where
+      accepted : ran sheet state g .reply .number ≡ 0
+      there : j < countIn (g .pairs)
+      before : (i : ℕ) → i < j → Agrees sheet state g i
+      outside : Agrees sheet state g j → ⊥
 
-  named-far : (row : ℕ) → gradeOf sheet state g ≡ grades.Differs row → (j : ℕ) → j + 1 ≡ row → FarAt sheet sound s g j
-  named-far row e j this = by-reason (reason e)
-    where
-      by-reason : GradeReason sheet state g (grades.Differs row) → FarAt sheet sound s g j
-      by-reason (inl w) = absurd (row-not-refused (w .is))
-      by-reason (inr (inl w)) = absurd (row-not-refused (w .is))
-      by-reason (inr (inr (inl w))) =
-          let here : w .j ≡ j = omega (arith, same-row (w .is), this) in
-          subst (λ (i : ℕ). FarAt sheet sound s g i) here (far-at (w .accepted) (w .j) (w .there) (w .off))
-      by-reason (inr (inr (inr w))) = absurd (accepted-not-row (sym (w .is)))
+    names : Named
+    names = by-reason (reason e)
+      where
+        by-reason : GradeReason sheet state g (verdict 0 0 (j + 1)) → Named
+        by-reason (inl w) = absurd (w .refused (numberless (w .is)))
+        by-reason (inr (inl w)) = absurd (no-own (w .given) (numberless (w .is)))
+        by-reason (inr (inr (inr w))) = absurd (omega (arith, same-row (w .is)))
+        by-reason (inr (inr (inl w))) =
+            let here : w .j ≡ j = omega (arith, same-row (w .is)) in
+            record {
+              accepted = w .accepted;
+              there = omega (arith, here, w .there);
+              before = λ i less. w .before i (omega (arith, here, less));
+              outside = λ a. w .outside (subst (Agrees sheet state g) (sym here) a);
+            }
 
-  pub at-grading : AtGrading sheet sound s g
-  at-grading = record { accepted = all-close; before = before-close; named = named-far }
+    before-close : (i : ℕ) → i < j → CloseAt sheet s g sound i
+    before-close i less = close-at (names .accepted) i (omega (arith, less, names .there)) (names .before i less)
+
+    named-far : FarAt sheet s g sound j
+    named-far = far-at (names .accepted) j (names .there) (names .outside)
+
+  pub at-grading : AtGrading sheet s g sound
+  at-grading = record { run = at; accepted = all-close; before = before-close; named = named-far }

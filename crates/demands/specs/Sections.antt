@@ -149,12 +149,13 @@ module _ (sheet : List ℕ) where
     AtEverySection began s [] = EachAfter (LikeLone (s .changes)) began (s .members)
     AtEverySection began s (c ∷ changes) = EachAfter (LikeLone (s .changes)) began (s .members) × AtEverySection began (afterSection s c) changes
 
-    -- SPEC 11.8, 15.11: demand 3 whole: lists of a rod that begins unused, and lists of section calls whose members do.
+    -- SPEC 11.8, 15.11, 17.8: demand 3 whole: lists of a rod that begins unused, tables graded behind them, and lists of section calls whose
+    -- members do.
     pub record WithinFrom : Type 0 where
       pub lists : (list : List Operation) → AtEveryStop sheet sound (begins unused) list
       -- SPEC 11.16: as soon as the rod has moved on, no trial from before can be kept
       pub moved-on : (list more : List Operation) → MovedOn sheet (afterAll sheet (begins unused) list) more
       -- SPEC 17.8: a table graded from where any such list has come to; from the unused rod where the list is empty
-      pub gradings : (list : List Operation) (g : Grading) → AtGrading sheet sound (afterAll sheet (begins unused) list) g
+      pub gradings : (list : List Operation) (g : Grading) → AtGrading sheet (afterAll sheet (begins unused) list) g sound
       pub sections : (members : List Member) → Each (λ (m : Member). m .state ≡ unused) members
           → (changes : List Change) → AtEverySection members (sectionBegins members) changes

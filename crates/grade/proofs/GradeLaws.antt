@@ -1,4 +1,4 @@
--- Grading (SPEC 17.4, 17.5). The loop that compares rows: before each pair the first row that is off is known of the pairs so far, and so of
+-- Grading (SPEC 17.4, 17.5). The loop that compares rows: before each pair the first row outside the tolerance is known of the pairs so far, and so of
 -- the whole list where the loop ends. And the verdict, stage by stage.
 use Prim.Native.Nat.{ℕ, suc, _+_, _^_, _≤_, _<_}
 use mathlib.Core.Path.{_≡_, refl, sym, ap, subst, _∙_}
@@ -10,8 +10,8 @@ use borrow.Author.Tests.{eq-eqb, ne-eqb}
 use lib.IntN.{ℤ, pos, negsuc, natAbs}
 use lib.Dec.{eqb}
 use lib.ListN.{length}
-use Rattle.refusals.specs.Table.{passes, refused, firstOf}
-use Rattle.refusals.proofs.FirstLaws.{stops-first, goes-on, refused-anyhow, passes-anyhow}
+use Rattle.refusals.specs.Table.{Answer, passes, refused, numbered, firstOf}
+use Rattle.refusals.proofs.FirstLaws.{stops-first, goes-on, refused-anyhow, passes-anyhow, told-anyhow}
 use Rattle.bits.specs.Field.{Held}
 use Rattle.bits.specs.Layout.{offset, widthAt}
 use Rattle.bits.proofs.LayoutLaws.{whole-of-field}
@@ -29,9 +29,8 @@ use Rattle.judge.specs.Standing.{Ready, readyOf, standingRefusals}
 use Rattle.judge.proofs.JudgeLaws.{standing-accepted}
 use Rattle.tie_rod.specs.Calls.{pieceAt, countIn, pairsIn, placeOf}
 use Rattle.tie_rod.proofs.WalkLaws.{Along, along-start, counted, along-next, walk-refused, place-refused, walk-last}
-use Rattle.grade.specs.declared.Grade.{Grade}
-use Rattle.grade.specs.declared.Grade.the-variants as grades
-use Rattle.grade.specs.Grades.{Grading, stressAt, agrees, firstOff, gradeAt, gradingRefusals, gradeBy, gradeWalked, gradeOf, offAfter, comparedOf}
+use Rattle.grade.specs.Grades.{Grading, stressAt, agrees, firstOutside, Verdict, verdict, gradingRefusals, verdictBy, verdictOn, gradeOf}
+use Rattle.grade.specs.Comparing.{outsideAfter, comparedOf, settled}
 
 -- A stress in a row is far from the ends of 64 bits.
 pub stress-small : (z : ℤ) → Held (widthAt rowLayout 3) z → natAbs z < 2 ^ 62
@@ -48,9 +47,9 @@ module _ (tolerance : ℤ) (theirs : List ℕ) where
 
   -- One row more.
   pub first-then : (j : ℕ) (ours : List Row) (row : Row)
-      → firstOff tolerance theirs j (ours ++ (row ∷ [])) ≡ offAfter (firstOff tolerance theirs j ours) (near (j + length ours) row) (j + length ours)
-  unfolding firstOff
-  first-then j [] row = by-row (near j row) ∙ ap (λ (k : ℕ). offAfter 0 (near k row) k) (sym (add-zero j))
+      → firstOutside tolerance theirs j (ours ++ (row ∷ [])) ≡ outsideAfter (firstOutside tolerance theirs j ours) (near (j + length ours) row) (j + length ours)
+  unfolding firstOutside
+  first-then j [] row = by-row (near j row) ∙ ap (λ (k : ℕ). outsideAfter 0 (near k row) k) (sym (add-zero j))
     where
       by-row : (b : Bool) → cond b 0 (j + 1) ≡ cond (b || not (eqb 0 0)) 0 (j + 1)
       by-row true = refl
@@ -61,24 +60,24 @@ module _ (tolerance : ℤ) (theirs : List ℕ) where
       later = omega arith
 
       whole : (f : ℕ) → ℕ
-      whole f = offAfter f (near (j + suc (length ours)) row) (j + suc (length ours))
+      whole f = outsideAfter f (near (j + suc (length ours)) row) (j + suc (length ours))
 
       stays : (b : Bool) → j + 1 ≡ cond (b || not (eqb (j + 1) 0)) (j + 1) (j + suc (length ours) + 1)
       stays true = refl
       stays false = rw (ne-eqb (j + 1) 0 (λ z. omega (arith, z)))
 
-      by-row : (b : Bool) → firstOff tolerance theirs (j + 1) (ours ++ (row ∷ []))
-          ≡ offAfter (firstOff tolerance theirs (j + 1) ours) (near (j + 1 + length ours) row) (j + 1 + length ours)
-          → cond b (firstOff tolerance theirs (j + 1) (ours ++ (row ∷ []))) (j + 1) ≡ whole (cond b (firstOff tolerance theirs (j + 1) ours) (j + 1))
-      by-row true onward = onward ∙ ap (λ (k : ℕ). offAfter (firstOff tolerance theirs (j + 1) ours) (near k row) k) later
+      by-row : (b : Bool) → firstOutside tolerance theirs (j + 1) (ours ++ (row ∷ []))
+          ≡ outsideAfter (firstOutside tolerance theirs (j + 1) ours) (near (j + 1 + length ours) row) (j + 1 + length ours)
+          → cond b (firstOutside tolerance theirs (j + 1) (ours ++ (row ∷ []))) (j + 1) ≡ whole (cond b (firstOutside tolerance theirs (j + 1) ours) (j + 1))
+      by-row true onward = onward ∙ ap (λ (k : ℕ). outsideAfter (firstOutside tolerance theirs (j + 1) ours) (near k row) k) later
       by-row false onward = stays (near (j + suc (length ours)) row)
 
   pub record Graded (h : Sheet) (pairs : List ℕ) (r now : Rod) (first i : ℕ) : Type 0 where
     pub along : Along h pairs r now i
-    pub first-is : first ≡ firstOff tolerance theirs 0 (rowsOf (along .advances))
+    pub first-is : first ≡ firstOutside tolerance theirs 0 (rowsOf (along .advances))
 
   pub graded-start : (h : Sheet) (pairs : List ℕ) (r : Rod) → Graded h pairs r r 0 0
-  unfolding along-start firstOff
+  unfolding along-start firstOutside
   graded-start h pairs r = record { along = along-start h pairs r; first-is = refl }
 
   module _ {h : Sheet} {pairs : List ℕ} {r now : Rod} {first i : ℕ} (g : Graded h pairs r now first i) where
@@ -93,15 +92,15 @@ module _ (tolerance : ℤ) (theirs : List ℕ) where
         rows-long (a ∷ advances) = ap suc (rows-long advances)
 
     pub graded-next : {a : Advance} {first′ : ℕ} → i < countIn pairs → pairAnswer h now (pieceAt pairLength i pairs) ≡ passes a
-        → first′ ≡ offAfter first (near i (a .row)) i → Graded h pairs r (a .rod) first′ (i + 1)
+        → first′ ≡ outsideAfter first (near i (a .row)) i → Graded h pairs r (a .rod) first′ (i + 1)
     unfolding along-next
     graded-next {a} more e is =
         let at : 0 + length ours ≡ i = omega (arith, ours-counted) in
         record {
           along = along-next (g .along) more e;
-          first-is = is ∙ ap (λ (f : ℕ). offAfter f (near i (a .row)) i) (g .first-is)
-              ∙ ap (λ (k : ℕ). offAfter (firstOff tolerance theirs 0 ours) (near k (a .row)) k) (sym at)
-              ∙ sym (first-then 0 ours (a .row)) ∙ ap (firstOff tolerance theirs 0) (sym (rows-append (g .along .advances) (a ∷ [])));
+          first-is = is ∙ ap (λ (f : ℕ). outsideAfter f (near i (a .row)) i) (g .first-is)
+              ∙ ap (λ (k : ℕ). outsideAfter (firstOutside tolerance theirs 0 ours) (near k (a .row)) k) (sym at)
+              ∙ sym (first-then 0 ours (a .row)) ∙ ap (firstOutside tolerance theirs 0) (sym (rows-append (g .along .advances) (a ∷ [])));
         }
 
     -- The walk of the list has come to an end here: at a refused pair,
@@ -124,34 +123,41 @@ module _ (sheet state : List ℕ) (g : Grading) where
   abbrev long : ℕ
   long = length (g .pairs)
 
-  abbrev verdict : Grade
-  verdict = gradeWalked g (walk (sheetOf sheet) (stateOf state) (pairsIn (g .pairs)))
+  abbrev told : Verdict
+  told = verdictOn g (walk (sheetOf sheet) (stateOf state) (pairsIn (g .pairs)))
 
   -- A refused sheet or state,
-  pub standing-stops : {n : ℕ} → firstOf (standingRefusals sheet state) ready ≡ refused n → gradeOf sheet state g ≡ grades.Refused n 0
+  pub standing-stops : {n : ℕ} → firstOf (standingRefusals sheet state) ready ≡ refused n → gradeOf sheet state g ≡ verdict n 0 0
   unfolding gradeOf
-  standing-stops {n} e = ap gradeBy (stops-first (standingRefusals sheet state) (listRefusals long) ready verdict n e)
+  standing-stops {n} e = ap verdictBy (stops-first (standingRefusals sheet state) (listRefusals long) ready told n e)
 
   module _ {x : Ready} (standing : firstOf (standingRefusals sheet state) ready ≡ passes x) where
     -- a refused list,
-    pub list-stops : {n : ℕ} → firstOf (listRefusals long) (countIn (g .pairs)) ≡ refused n → gradeOf sheet state g ≡ grades.Refused n 0
+    pub list-stops : {n : ℕ} → firstOf (listRefusals long) (countIn (g .pairs)) ≡ refused n → gradeOf sheet state g ≡ verdict n 0 0
     unfolding gradeOf
     list-stops {n} e =
-        ap gradeBy (goes-on (standingRefusals sheet state) (listRefusals long) ready verdict standing ∙ refused-anyhow (listRefusals long) (countIn (g .pairs)) verdict n e)
+        ap verdictBy (goes-on (standingRefusals sheet state) (listRefusals long) ready told standing ∙ refused-anyhow (listRefusals long) (countIn (g .pairs)) told n e)
 
     -- and one whose pairs are walked.
     pub list-walked : {m : ℕ} → firstOf (listRefusals long) (countIn (g .pairs)) ≡ passes m
-        → gradeOf sheet state g ≡ gradeWalked g (walk (x .sheet) (x .rod) (pairsIn (g .pairs)))
+        → gradeOf sheet state g ≡ verdictOn g (walk (x .sheet) (x .rod) (pairsIn (g .pairs)))
     unfolding gradeOf
     list-walked e =
-        ap gradeBy (goes-on (standingRefusals sheet state) (listRefusals long) ready verdict standing ∙ passes-anyhow (listRefusals long) (countIn (g .pairs)) verdict e)
-        ∙ ap (λ (y : Ready). gradeWalked g (walk (y .sheet) (y .rod) (pairsIn (g .pairs)))) (standing-accepted sheet state standing .0)
+        ap verdictBy (goes-on (standingRefusals sheet state) (listRefusals long) ready told standing ∙ passes-anyhow (listRefusals long) (countIn (g .pairs)) told e)
+        ∙ ap (λ (y : Ready). verdictOn g (walk (y .sheet) (y .rod) (pairsIn (g .pairs)))) (standing-accepted sheet state standing .0)
 
 -- A walk that was refused at a pair,
-pub walked-refused : (g : Grading) (w : Walk) → (w .number ≡ 0 → ⊥) → gradeWalked g w ≡ grades.Refused (w .number) (placeOf w)
+pub walked-refused : (g : Grading) (w : Walk) → (w .number ≡ 0 → ⊥) → verdictOn g w ≡ verdict (w .number) (placeOf w) 0
 walked-refused g w some = rw (ne-eqb (w .number) 0 some)
 
 -- and one that went to the end.
 pub walked-last : (g : Grading) (w : Walk) → w .number ≡ 0
-    → gradeWalked g w ≡ gradeBy (firstOf (gradingRefusals g) (gradeAt (firstOff (g .tolerance) (g .rows) 0 (rowsOf (w .advances)))))
+    → verdictOn g w ≡ verdictBy (firstOf (gradingRefusals g) (verdict 0 0 (firstOutside (g .tolerance) (g .rows) 0 (rowsOf (w .advances)))))
 walked-last g w none = rw (eq-eqb (w .number) 0 none)
+
+-- What was compared, settled with the number that tells 16 and 17.
+pub settled-is : (g : Grading) (w : Walk) (own : ℕ) (d : ℤ) → numbered own d ≡ firstOf (gradingRefusals g) d
+    → settled (comparedOf (g .tolerance) (g .rows) w) own ≡ verdictOn g w
+settled-is g w own d e =
+    ap (λ (x : Answer Verdict). cond (eqb (w .number) 0) (verdictBy x) (verdict (w .number) (placeOf w) 0))
+    (told-anyhow own (gradingRefusals g) d (verdict 0 0 (firstOutside (g .tolerance) (g .rows) 0 (rowsOf (w .advances)))) e)

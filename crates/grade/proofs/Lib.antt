@@ -1,3 +1,3 @@
 pub mod GradeLaws
 pub mod Numbers
-pub mod OffLaws
+pub mod OutsideLaws

@@ -18,13 +18,11 @@ use Rattle.tie_rod.specs.Calls.{run, countIn, pairsIn, placeOf}
 use Rattle.tie_rod.proofs.PieceLaws.{length-pieces}
 use Rattle.tie_rod.proofs.CallLaws.{list-counts}
 use Rattle.tie_rod.proofs.Numbers.{standing-numbers, walk-most, walk-place}
-use Rattle.grade.specs.declared.Grade.{Grade}
-use Rattle.grade.specs.declared.Grade.the-variants as grades
-use Rattle.grade.specs.Grades.{Grading, firstOff, gradeAt, gradingRefusals, openingRefusals, gradeBy, gradeWalked, gradeOf, gradeNumber, gradePlace}
+use Rattle.grade.specs.Grades.{Grading, firstOutside, Verdict, verdict, gradingRefusals, openingRefusals, verdictBy, verdictOn, gradeOf}
 
-pub record Small (grade : Grade) : Type 0 where
-  pub number : gradeNumber grade < 256
-  pub place : gradePlace grade ≤ mostPairs
+pub record Small (v : Verdict) : Type 0 where
+  pub number : v .number < 256
+  pub place : v .place ≤ mostPairs
 
 numbers-join : (first second : List Refusal) → AllNumbers Numbered first → AllNumbers Numbered second → AllNumbers Numbered (first ++ second)
 numbers-join [] second all more = more
@@ -39,54 +37,47 @@ module _ (g : Grading) where
   unfolding gradingRefusals
   grading-numbers = (line 16 (omega arith) (omega arith), (line 17 (omega arith) (omega arith), tt))
 
-  -- A number of either table,
-  by-table : (table : List Refusal) → AllNumbers Numbered table → (v : Grade) → Small v → Small (gradeBy (firstOf table v))
-  by-table table all v small = by-answer (firstOf table v) refl
+  -- A number of the table,
+  by-table : (row : ℕ) → Small (verdictBy (firstOf (gradingRefusals g) (verdict 0 0 row)))
+  by-table row = by-answer (firstOf (gradingRefusals g) (verdict 0 0 row)) refl
     where
-      by-answer : (x : Answer Grade) → firstOf table v ≡ x → Small (gradeBy x)
-      by-answer (refused n) e = record { number = answer-number Numbered table v all e .1; place = omega arith }
-      by-answer (passes w) e = subst Small (passes-given table v e) small
+      by-answer : (x : Answer Verdict) → firstOf (gradingRefusals g) (verdict 0 0 row) ≡ x → Small (verdictBy x)
+      by-answer (refused n) e = record { number = answer-number Numbered (gradingRefusals g) (verdict 0 0 row) grading-numbers e .1; place = omega arith }
+      by-answer (passes v) e = subst Small (passes-given (gradingRefusals g) (verdict 0 0 row) e) (record { number = omega arith; place = omega arith })
 
   -- and one of the walk.
-  at-small : (row : ℕ) → Small (gradeAt row)
-  at-small row = by-row (eqb row 0)
-    where
-      by-row : (b : Bool) → Small (cond b grades.Accepted (grades.Differs row))
-      by-row true = record { number = omega arith; place = omega arith }
-      by-row false = record { number = omega arith; place = omega arith }
-
-  walked-small : (w : Walk) → w .number < 256 → placeOf w ≤ mostPairs → Small (gradeWalked g w)
+  walked-small : (w : Walk) → w .number < 256 → placeOf w ≤ mostPairs → Small (verdictOn g w)
   walked-small w number place = by-number (eqb (w .number) 0)
     where
-      verdict : Grade
-      verdict = gradeAt (firstOff (g .tolerance) (g .rows) 0 (rowsOf (w .advances)))
+      row : ℕ
+      row = firstOutside (g .tolerance) (g .rows) 0 (rowsOf (w .advances))
 
-      by-number : (b : Bool) → Small (cond b (gradeBy (firstOf (gradingRefusals g) verdict)) (grades.Refused (w .number) (placeOf w)))
-      by-number true = by-table (gradingRefusals g) grading-numbers verdict (at-small (firstOff (g .tolerance) (g .rows) 0 (rowsOf (w .advances))))
+      by-number : (b : Bool) → Small (cond b (verdictBy (firstOf (gradingRefusals g) (verdict 0 0 row))) (verdict (w .number) (placeOf w) 0))
+      by-number true = by-table row
       by-number false = record { number = number; place = place }
 
 pub grade-small : (sheet state : List ℕ) (g : Grading) → Small (gradeOf sheet state g)
 unfolding gradeOf
-grade-small sheet state g = by-opening (firstOf (openingRefusals sheet state g) verdict) refl
+grade-small sheet state g = by-opening (firstOf (openingRefusals sheet state g) told) refl
   where
     walked : Walk
     walked = walk (sheetOf sheet) (stateOf state) (pairsIn (g .pairs))
 
-    verdict : Grade
-    verdict = gradeWalked g walked
+    told : Verdict
+    told = verdictOn g walked
 
-    by-opening : (x : Answer Grade) → firstOf (openingRefusals sheet state g) verdict ≡ x → Small (gradeBy x)
+    by-opening : (x : Answer Verdict) → firstOf (openingRefusals sheet state g) told ≡ x → Small (verdictBy x)
     by-opening (refused n) e =
         record {
-          number = answer-number Numbered (openingRefusals sheet state g) verdict
+          number = answer-number Numbered (openingRefusals sheet state g) told
               (numbers-join (standingRefusals sheet state) (listRefusals (length (g .pairs))) (standing-numbers sheet state) (list-numbers g)) e .1;
           place = omega arith;
         }
     by-opening (passes v) e =
         let count = countIn (g .pairs) in
-        let listed = both-pass (standingRefusals sheet state) (listRefusals (length (g .pairs))) verdict verdict e .1 in
-        let few = list-counts run (length (g .pairs)) (passes-anyhow (listRefusals (length (g .pairs))) verdict count listed) .1 in
+        let listed = both-pass (standingRefusals sheet state) (listRefusals (length (g .pairs))) told told e .1 in
+        let few = list-counts run (length (g .pairs)) (passes-anyhow (listRefusals (length (g .pairs))) told count listed) .1 in
         let long : length (pairsIn (g .pairs)) ≡ count = length-pieces pairLength count (g .pairs) in
-        subst Small (passes-given (openingRefusals sheet state g) verdict e)
+        subst Small (passes-given (openingRefusals sheet state g) told e)
         (walked-small g walked (walk-most (sheetOf sheet) (stateOf state) (pairsIn (g .pairs)))
         (omega (arith, walk-place (sheetOf sheet) (stateOf state) (pairsIn (g .pairs)), long, few)))

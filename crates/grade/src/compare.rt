@@ -12,7 +12,8 @@ ghost use Rattle.ranges.specs.Ranges.{mostPairs};
 ghost use Rattle.carry.specs.Walk.{walk};
 ghost use Rattle.carry.specs.Reaching.{Stands};
 ghost use Rattle.tie_rod.specs.Calls.{countIn, pairsIn};
-ghost use Rattle.grade.specs.Grades.{agrees, comparedOf, offAfter, stressAt};
+ghost use Rattle.grade.specs.Grades.{agrees, stressAt};
+ghost use Rattle.grade.specs.Comparing.{comparedOf, outsideAfter};
 
 // Whether a stress of theirs lies within the tolerance of ours.
 fn agrees(theirs: Grain, ours: Grain, tolerance: Grain) -> bool
@@ -25,10 +26,10 @@ fn agrees(theirs: Grain, ours: Grain, tolerance: Grain) -> bool
     far.at_most(tolerance)
 }
 
-// The first row that is off, 0 for none: it stays what it was before row i, unless that row is the first.
-fn first_off(first: usize, ours: Grain, rows: &[u8], i: usize, tolerance: Grain) -> usize
-    requires { ⌜ (i < 2 ^ 50) × (natAbs (ours .0) < 2 ^ 62) ⌝ }
-    ensures { λ r. ⌜ r ≡ offAfter first (agrees (tolerance .0) (stressAt (now (rows .entry)) i) (ours .0)) i ⌝ }
+// The first row outside the tolerance, 0 for none: it stays what it was before row i, unless that row is the first.
+fn first_outside(first: usize, ours: Grain, rows: &[u8], i: usize, tolerance: Grain) -> usize
+    requires { ⌜ (i < 2 ^ 52) × (natAbs (ours .0) < 2 ^ 62) ⌝ }
+    ensures { λ r. ⌜ r ≡ outsideAfter first (agrees (tolerance .0) (stressAt (now (rows .entry)) i) (ours .0)) i ⌝ }
 {
     let theirs = Row::stress_at(rows, i);
     let near = agrees(theirs, ours, tolerance);
@@ -58,7 +59,7 @@ pub(crate) fn compare(
             Tried::Accepted(carried) => {
                 let row = carried.row;
                 let ours = row.stress;
-                first = first_off(first, ours, rows, i, tolerance);
+                first = first_outside(first, ours, rows, i, tolerance);
                 reached = carried.keep();
             }
             Tried::Refused(number) => {

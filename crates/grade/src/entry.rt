@@ -9,12 +9,13 @@ ghost use Prim.Native.Nat.{_*_, _≤_};
 ghost use Rattle.refusals.specs.Table.{firstOf, numbered};
 ghost use Rattle.ranges.specs.Ranges.{mostPairs};
 ghost use Rattle.tie_rod.specs.Calls.{countIn};
-ghost use Rattle.grade.specs.Grades.{Grading, gradeAt, gradeBy, gradeNumber, gradeOf, gradePlace, gradeRow, grading, gradingRefusals};
+ghost use Rattle.grade.specs.Grades.{CasesApart, gradeMeaning, gradeOf, grading, gradingRefusals};
+ghost use Rattle.grade.specs.Comparing.{settled};
 
 impl Grade {
     // The number of a verdict, 0 unless it is a refusal (SPEC 17.6).
     pub fn number(self) -> u64
-        ensures { λ r. ⌜ r ≡ gradeNumber self ⌝ }
+        ensures { λ r. ⌜ r ≡ gradeMeaning self .number ⌝ }
     {
         match self {
             Grade::Accepted => 0,
@@ -25,7 +26,7 @@ impl Grade {
 
     // The refused pair's place, 0 where there is none.
     pub fn place(self) -> usize
-        ensures { λ r. ⌜ r ≡ gradePlace self ⌝ }
+        ensures { λ r. ⌜ r ≡ gradeMeaning self .place ⌝ }
     {
         match self {
             Grade::Accepted => 0,
@@ -36,7 +37,7 @@ impl Grade {
 
     // The first row that isn't within the tolerance, 0 where there is none.
     pub fn row(self) -> usize
-        ensures { λ r. ⌜ r ≡ gradeRow self ⌝ }
+        ensures { λ r. ⌜ r ≡ gradeMeaning self .row ⌝ }
     {
         match self {
             Grade::Accepted => 0,
@@ -61,10 +62,16 @@ fn own_number(pairs: &[u8], rows: &[u8], tolerance: i64) -> u64
     0
 }
 
-// The verdict of rows that were compared to the end: 16 and 17 go before it, and every pair's number before these.
+// The verdict on what was compared: a refused pair's number goes before 16 and 17, and these before the rows.
 fn verdict(compared: Compared, own: u64) -> Grade
-    ensures { λ r. ⌜ r ≡ gradeBy (numbered own (gradeAt (compared .first))) ⌝ }
+    ensures { λ r. ⌜ gradeMeaning r ≡ settled compared own ⌝ }
+    ensures apart { λ r. ⌜ CasesApart r ⌝ }
 {
+    let number = compared.number;
+    if number != 0 {
+        let place = compared.place;
+        return Grade::Refused(number, place);
+    }
     if own != 0 {
         return Grade::Refused(own, 0);
     }
@@ -77,12 +84,13 @@ fn verdict(compared: Compared, own: u64) -> Grade
 
 // Grades a table of rows (SPEC 17).
 pub fn grade(sheet: &[u8], state: &[u8], pairs: &[u8], rows: &[u8], tolerance: i64) -> Grade
-    ensures { λ r. ⌜ r ≡ gradeOf (now (sheet .entry)) (now (state .entry)) (grading (now (pairs .entry)) (now (rows .entry)) tolerance) ⌝ }
+    ensures { λ r. ⌜ gradeMeaning r ≡ gradeOf (now (sheet .entry)) (now (state .entry)) (grading (now (pairs .entry)) (now (rows .entry)) tolerance) ⌝ }
+    ensures apart { λ r. ⌜ CasesApart r ⌝ }
 {
     let standing = judge::judge(sheet, state);
-    let number = standing.number;
-    if number != 0 {
-        return Grade::Refused(number, 0);
+    let holder = standing.number;
+    if holder != 0 {
+        return Grade::Refused(holder, 0);
     }
     let Listed::Pairs(_) = pair::count(pairs.len()) else {
         return Grade::Refused(7, 0);
@@ -90,11 +98,6 @@ pub fn grade(sheet: &[u8], state: &[u8], pairs: &[u8], rows: &[u8], tolerance: i
     let values = standing.sheet;
     let start = standing.reached;
     let compared = compare::compare(values, start, pairs, rows, Grain(tolerance));
-    let refused = compared.number;
-    if refused != 0 {
-        let place = compared.place;
-        return Grade::Refused(refused, place);
-    }
     let own = own_number(pairs, rows, tolerance);
     verdict(compared, own)
 }

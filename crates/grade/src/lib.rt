@@ -10,7 +10,8 @@ pub enum Grade {
     Refused(u64, usize),
 }
 
-// What the pairs of a list come to beside their rows: number and place of a refused pair, and the first row that is off, 0 for none.
+// What the pairs of a list come to beside their rows: number and place of a refused pair, and the first row outside the tolerance, 0 for
+// none.
 pub struct Compared {
     pub number: u64,
     pub place: usize,

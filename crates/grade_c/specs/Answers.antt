@@ -1,8 +1,7 @@
 -- What C sees of a grading (SPEC 9.10, 17.6), cited by its contract; definitions only, nothing is assumed.
 use Prim.Native.Nat.{ℕ}
 use Rattle.refusals.specs.Table.{inOneNumber}
-use Rattle.grade.specs.declared.Grade.{Grade}
-use Rattle.grade.specs.Grades.{gradeNumber, gradePlace, gradeRow}
+use Rattle.grade.specs.Grades.{Verdict}
 
 -- SPEC 17.6: the answer, and what stands at `row` afterwards.
 pub record GradeSeen : Type 0 where
@@ -12,6 +11,6 @@ pub record GradeSeen : Type 0 where
 abbrev pub gradeSeen : (answer row : ℕ) → GradeSeen
 gradeSeen answer row = record { answer = answer; row = row }
 
--- SPEC 17.6: number and place as one number, and the row that is off, 0 where there is none.
-abbrev pub gradeSeenOf : Grade → GradeSeen
-gradeSeenOf g = gradeSeen (inOneNumber (gradeNumber g) (gradePlace g)) (gradeRow g)
+-- SPEC 17.6: number and place as one number, and the row.
+abbrev pub gradeSeenOf : Verdict → GradeSeen
+gradeSeenOf v = gradeSeen (inOneNumber (v .number) (v .place)) (v .row)

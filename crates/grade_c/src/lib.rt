@@ -5,13 +5,13 @@ ghost use mathlib.Core.Path.{_≡_};
 ghost use Prim.Native.Nat.{_≤_, _<_};
 ghost use Rattle.refusals.specs.Table.{inOneNumber};
 ghost use Rattle.ranges.specs.Ranges.{mostPairs};
-ghost use Rattle.grade.specs.Grades.{gradeNumber, gradeOf, gradePlace, grading};
+ghost use Rattle.grade.specs.Grades.{gradeMeaning, gradeOf, grading};
 ghost use Rattle.grade_c.specs.Answers.{gradeSeen, gradeSeenOf};
 
 // Number and place as one number.
 fn pack(grade: Grade) -> u64
-    requires { ⌜ (gradeNumber grade < 256) × (gradePlace grade ≤ mostPairs) ⌝ }
-    ensures { λ r. ⌜ r ≡ inOneNumber (gradeNumber grade) (gradePlace grade) ⌝ }
+    requires { ⌜ (gradeMeaning grade .number < 256) × (gradeMeaning grade .place ≤ mostPairs) ⌝ }
+    ensures { λ r. ⌜ r ≡ inOneNumber (gradeMeaning grade .number) (gradeMeaning grade .place) ⌝ }
 {
     let place = grade.place() as u64;
     grade.number() + 256 * place

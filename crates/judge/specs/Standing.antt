@@ -28,7 +28,7 @@ holderRefusals h state = stateRefusals state ++ againstRefusals h (stateOf state
 unfoldable pub standingRefusals : (sheet state : List ℕ) → List Refusal
 standingRefusals sheet state = sheetRefusals sheet ++ holderRefusals (sheetOf sheet) state
 
--- SPEC 8.8: what judging a state answers: the number, or the sheet and the rod that passed.
+-- SPEC 8.8: what judging a state answers: the number, or the sheet and the rod that passed,
 abbrev pub judgedMeaning : Sheet → Judged → Answer Ready
 judgedMeaning h j = numbered (j .number) (record { sheet = h; rod = j .reached .rod })
 

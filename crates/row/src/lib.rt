@@ -65,7 +65,7 @@ impl Row {
 
     // The stress in the row that comes after j others, and no other field of it.
     pub fn stress_at(rows: &[u8], j: usize) -> Grain
-        requires { ⌜ j < 2 ^ 50 ⌝ }
+        requires { ⌜ j < 2 ^ 52 ⌝ }
         ensures { λ r. ⌜ r ≡ rowOf (take rowLength (drop (rowLength * j) (now (rows .entry)))) .stress ⌝ }
     {
         let at = 8 * ROW_LENGTH * j + STRESS_AT;

@@ -2,7 +2,7 @@ use mathlib.Core.Path.{_≡_, sym, ap, ap₂, subst, _∙_}
 use borrow.Author.Needs.{needs}
 use lib.IntN.{ℤ}
 use mir.Facts.{toZ-ofZ}
-use Rattle.grade.specs.Grades.{gradeOf, grading}
+use Rattle.grade.specs.Grades.{gradeMeaning, gradeOf, grading}
 use Rattle.grade.proofs.Numbers.{Small, grade-small}
 use Rattle.grade_c.specs.Answers.{gradeSeen, gradeSeenOf}
 use Rattle.grade_c.proofs.tie_rod_grade.Statement.{statement}
@@ -12,10 +12,10 @@ abbrev start : tie.After-grade → tie.Start
 start c = c .before .before .before .before .before
 
 grade-is : (c : tie.After-grade) → let a = start c .args in
-    c .grade .result ≡ gradeOf (a .sheet .now) (a .state .now) (grading (a .pairs .now) (a .rows .now) (a .tolerance))
+    gradeMeaning (c .grade .result) ≡ gradeOf (a .sheet .now) (a .state .now) (grading (a .pairs .now) (a .rows .now) (a .tolerance))
 grade-is c =
     let a = start c .args in
-    c .grade .ensures ∙ ap (λ (d : ℤ). gradeOf (a .sheet .now) (a .state .now) (grading (a .pairs .now) (a .rows .now) d)) (toZ-ofZ (start c .fits .tolerance))
+    c .grade .ensures .0 ∙ ap (λ (d : ℤ). gradeOf (a .sheet .now) (a .state .now) (grading (a .pairs .now) (a .rows .now) d)) (toZ-ofZ (start c .fits .tolerance))
 
 pack-requires : tie.Need-pack-requires
 pack-requires c κs =

@@ -45,8 +45,8 @@ accepted : (c : tie.After-carried Inv-loop μ-loop) → let trial = c .before .b
     (answer trial ≡ passes (record { rod = carried .to .rod; row = carried .row })) × (carried .to ≡ reachedOf (start (head trial) .args .sheet) (carried .to .rod))
 accepted c = let trial = c .before .before in tried-accepted (start (head trial) .args .sheet) (answer trial) (ap triedMeaning (sym (c .carried .given .1)) ∙ trial .trial-at .ensures)
 
-first-off-requires : tie.Need-first-off-requires Inv-loop μ-loop
-first-off-requires c κs =
+first-outside-requires : tie.Need-first-outside-requires Inv-loop μ-loop
+first-outside-requires c κs =
     let carried = c .before .before .before in
     let trial = carried .before .before in
     let inv = head trial .loop .inv in
@@ -84,7 +84,7 @@ loop-again : tie.Need-loop-again Inv-loop μ-loop
 loop-again c =
     let trial = carried-of c .before .before in
     let inv = head trial .loop .inv in
-    (graded-next _ _ (inv .0) (trial .before .loop-test .taken) (kept c .0) (c .before .first-off .ensures), stands-next _ (inv .1) (kept c .0) (kept c .1))
+    (graded-next _ _ (inv .0) (trial .before .loop-test .taken) (kept c .0) (c .before .first-outside .ensures), stands-next _ (inv .1) (kept c .0) (kept c .1))
 
 returns-2 : tie.Need-returns-2 Inv-loop μ-loop
 returns-2 c = graded-last _ _ (c .before .loop .inv .0) (c .loop-test .left)
@@ -98,7 +98,7 @@ compare-spec =
     loop-holds
     trial-at-requires
     (λ c. search needs)
-    first-off-requires
+    first-outside-requires
     (λ c κs. search needs)
     (λ c. search needs)
     (λ c. search needs)

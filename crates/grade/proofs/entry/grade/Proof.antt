@@ -1,21 +1,22 @@
 use Prim.Native.Nat.{ℕ, _≤_}
 use mathlib.Core.Path.{_≡_, refl, sym, ap, subst, _∙_}
 use borrow.Author.Needs.{needs}
+use native.Mathlib.Omega.{arith}
 use lib.IntN.{ℤ}
 use lib.ListN.{length}
 use mir.Facts.{toZ-ofZ}
 use Rattle.refusals.specs.Table.{passes, refused, firstOf, numbered}
-use Rattle.refusals.proofs.FirstLaws.{number-refused, number-passes, told-anyhow}
+use Rattle.refusals.proofs.FirstLaws.{number-refused, number-passes}
 use Rattle.ranges.specs.Ranges.{mostPairs}
 use Rattle.pair.specs.Pairs.{listMeaning, listRefusals, pairLength}
-use Rattle.carry.specs.Walk.{Walk, rowsOf, walk}
+use Rattle.carry.specs.Walk.{Walk, walk}
 use Rattle.judge.specs.Standing.{readyOf, standingRefusals}
 use Rattle.tie_rod.specs.Calls.{run, countIn, pairsIn}
 use Rattle.tie_rod.proofs.CallLaws.{list-counts}
-use Rattle.grade.specs.declared.Grade.the-variants as grades
 use Rattle.grade.specs.declared.Compared.{Compared}
-use Rattle.grade.specs.Grades.{Grading, grading, gradeBy, gradeAt, gradingRefusals, gradeWalked, gradeOf, comparedOf}
-use Rattle.grade.proofs.GradeLaws.{standing-stops, list-stops, list-walked, walked-refused, walked-last}
+use Rattle.grade.specs.Grades.{Grading, grading, gradingRefusals, verdictOn, gradeOf}
+use Rattle.grade.specs.Comparing.{comparedOf, settled}
+use Rattle.grade.proofs.GradeLaws.{standing-stops, list-stops, list-walked, settled-is}
 use Rattle.grade.proofs.entry.grade.Statement.{statement}
 use Rattle.grade.proofs.entry.grade.Tie as tie
 
@@ -29,8 +30,10 @@ gradingOf s = grading (s .args .pairs .now) (s .args .rows .now) (s .args .toler
 returns : tie.Need-returns
 returns c =
     let judged = c .before in
-    let a = start judged .args in
-    sym (standing-stops (a .sheet .now) (a .state .now) (gradingOf (start judged)) (number-refused _ _ (judged .judge .ensures .0) (c .if1 .taken)))
+    let a = start judged .args in (
+      sym (standing-stops (a .sheet .now) (a .state .now) (gradingOf (start judged)) (number-refused _ _ (judged .judge .ensures .0) (c .if1 .taken))),
+      c .if1 .taken,
+    )
 
 -- sheet and state pass
 standing : (c : tie.Else1) → let judged = c .before in let a = start judged .args in
@@ -41,8 +44,10 @@ standing c = let judged = c .before in number-passes _ _ (judged .judge .ensures
 returns-2 : tie.Need-returns-2
 returns-2 c =
     let count = c .before .before in
-    let s = start (count .before .before) in
-    sym (list-stops (s .args .sheet .now) (s .args .state .now) (gradingOf s) (standing (count .before)) (sym (count .count .ensures) ∙ ap listMeaning (c .enum-told2 .given .1)))
+    let s = start (count .before .before) in (
+      sym (list-stops (s .args .sheet .now) (s .args .state .now) (gradingOf s) (standing (count .before)) (sym (count .count .ensures) ∙ ap listMeaning (c .enum-told2 .given .1))),
+      λ z. omega (arith, z),
+    )
 
 -- the list passes
 listed : (c : tie.After-enum-told) → let count = c .before .before in let pairs = start (count .before .before) .args .pairs .now in
@@ -74,7 +79,7 @@ walked c =
     let judged = told-of c .before .before .before .before in
     walk (judged .judge .result .sheet) (judged .judge .result .reached .rod) (pairsIn (start judged .args .pairs .now))
 
-is-walked : (c : tie.After-compare) → gradeOf (start-of c .args .sheet .now) (start-of c .args .state .now) (gradingOf (start-of c)) ≡ gradeWalked (gradingOf (start-of c)) (walked c)
+is-walked : (c : tie.After-compare) → gradeOf (start-of c .args .sheet .now) (start-of c .args .state .now) (gradingOf (start-of c)) ≡ verdictOn (gradingOf (start-of c)) (walked c)
 is-walked c =
     let s = start-of c in
     list-walked (s .args .sheet .now) (s .args .state .now) (gradingOf s) (standing (told-of c .before .before .before)) (listed (told-of c))
@@ -84,31 +89,22 @@ compared-is c =
     let s = start-of c in
     c .compare .ensures ∙ ap (λ (d : ℤ). comparedOf d (s .args .rows .now) (walked c)) (toZ-ofZ (s .fits .tolerance))
 
+own-number-requires : tie.Need-own-number-requires
+own-number-requires c κs = few (told-of c)
+
 returns-3 : tie.Need-returns-3
 returns-3 c =
-    let compared = c .before in
-    let is = compared-is compared in
-    let some : (walked compared .number ≡ 0 → ⊥) = λ z. c .if2 .taken (ap (λ (x : Compared). x .number) is ∙ z) in
-    ap (λ (x : Compared). grades.Refused (x .number) (x .place)) is ∙ sym (walked-refused (gradingOf (start-of compared)) (walked compared) some) ∙ sym (is-walked compared)
-
-own-number-requires : tie.Need-own-number-requires
-own-number-requires c κs = few (told-of (c .before))
-
-returns-4 : tie.Need-returns-4
-returns-4 c =
     let own = c .before in
-    let test = own .before in
-    let compared = test .before in
+    let compared = own .before in
     let s = start-of compared in
     let g = gradingOf s in
     let n = own .own-number .result in
     let told : numbered n (s .args .tolerance) ≡ firstOf (gradingRefusals g) (s .args .tolerance) =
-    subst (λ (d : ℤ). numbered n d ≡ firstOf (gradingRefusals (grading (s .args .pairs .now) (s .args .rows .now) d)) d) (toZ-ofZ (s .fits .tolerance)) (own .own-number .ensures) in
-    let none : walked compared .number ≡ 0 = sym (ap (λ (x : Compared). x .number) (compared-is compared)) ∙ test .if2 .left in
-    c .verdict .ensures
-    ∙ ap gradeBy (told-anyhow n (gradingRefusals g) (s .args .tolerance) (gradeAt (compared .compare .result .first)) told)
-    ∙ ap (λ (x : Compared). gradeBy (firstOf (gradingRefusals g) (gradeAt (x .first)))) (compared-is compared)
-    ∙ sym (walked-last g (walked compared) none) ∙ sym (is-walked compared)
+    subst (λ (d : ℤ). numbered n d ≡ firstOf (gradingRefusals (grading (s .args .pairs .now) (s .args .rows .now) d)) d) (toZ-ofZ (s .fits .tolerance)) (own .own-number .ensures) in (
+      c .verdict .ensures .0 ∙ ap (λ (x : Compared). settled x n) (compared-is compared)
+          ∙ settled-is g (walked compared) n (s .args .tolerance) told ∙ sym (is-walked compared),
+      c .verdict .ensures .1,
+    )
 
 pub grade-spec : {M : Type 1} → statement M
 grade-spec =
@@ -121,7 +117,6 @@ grade-spec =
     (λ c. search needs)
     returns-2
     compare-requires
-    returns-3
     own-number-requires
     (λ c κs. search needs)
-    returns-4)
+    returns-3)

@@ -7,10 +7,11 @@ use native.Mathlib.Omega.{arith}
 use lib.IntN.{natAbs}
 use lib.Dec.{eqb}
 use Rattle.units.specs.declared.Grain.{Grain}
-use Rattle.grade.specs.Grades.{agrees, stressAt, offAfter}
+use Rattle.grade.specs.Grades.{agrees, stressAt}
+use Rattle.grade.specs.Comparing.{outsideAfter}
 use Rattle.grade.proofs.GradeLaws.{their-stress-small}
-use Rattle.grade.proofs.compare.first_off.Statement.{statement}
-use Rattle.grade.proofs.compare.first_off.Tie as tie
+use Rattle.grade.proofs.compare.first_outside.Statement.{statement}
+use Rattle.grade.proofs.compare.first_outside.Tie as tie
 
 abbrev start : tie.After-agrees → tie.Start
 start c = c .before .before .before
@@ -20,16 +21,16 @@ near-is : (c : tie.After-agrees) → let a = start c .args in c .agrees .result 
 near-is c = let a = start c .args in c .agrees .ensures ∙ ap (λ (theirs : Grain). agrees (a .tolerance .0) (theirs .0) (a .ours .0)) (c .before .stress-at .ensures)
 
 -- so that nothing changes, or there was one before it,
-stays : (first j : ℕ) (agree : Bool) → agree ≡ true → first ≡ offAfter first agree j
+stays : (first j : ℕ) (agree : Bool) → agree ≡ true → first ≡ outsideAfter first agree j
 stays first j true e = refl
 stays first j false e = cc
 
-stays-before : (first j : ℕ) (agree : Bool) → not (eqb first 0) ≡ true → first ≡ offAfter first agree j
+stays-before : (first j : ℕ) (agree : Bool) → not (eqb first 0) ≡ true → first ≡ outsideAfter first agree j
 stays-before first j true e = refl
 stays-before first j false e = rw e refl
 
 -- or it is the first.
-is-first : (first j : ℕ) (agree : Bool) → agree ≡ false → not (eqb first 0) ≡ false → j + 1 ≡ offAfter first agree j
+is-first : (first j : ℕ) (agree : Bool) → agree ≡ false → not (eqb first 0) ≡ false → j + 1 ≡ outsideAfter first agree j
 is-first first j false e f = rw f refl
 is-first first j true e f = cc
 
@@ -49,5 +50,5 @@ returns-2 c =
     let a = start (c .before .before) .args in
     is-first (a .first) (a .i) (agrees (a .tolerance .0) (stressAt (a .rows .now) (a .i)) (a .ours .0)) (sym (near-is (c .before .before)) ∙ c .before .if1 .left) (c .if2 .left)
 
-pub first-off-spec : {M : Type 1} → statement M
-first-off-spec = tie.close (tie.spec (λ c κs. search needs) agrees-requires returns (λ c. search needs) returns-2)
+pub first-outside-spec : {M : Type 1} → statement M
+first-outside-spec = tie.close (tie.spec (λ c κs. search needs) agrees-requires returns (λ c. search needs) returns-2)
