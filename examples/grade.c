@@ -11,6 +11,8 @@
 #include <string.h>
 
 #define PAIRS 6
+/* Where k stands in a state (SPEC 3.11), in 4 bytes. */
+#define YIELDED_AT 33
 /* In grains: the customer's solver prints eight digits of MPa behind the point, the last of which is 10 grains. */
 #define TOLERANCE 10
 
@@ -55,14 +57,15 @@ static void write_stress(int place, int64_t stress)
 
 /* ---- what comes out ---- */
 
-/* Our own yielded rows up to a row and with it: a run of these pairs has them in the last 4 bytes of its state. */
+/* Our own yielded rows up to a row and with it: a run of these pairs hands back a state that counts them. */
 static uint32_t yielded_up_to(size_t row)
 {
     uint8_t rows[PAIRS * TIE_ROD_ROW_BYTES];
     uint8_t next[TIE_ROD_STATE_BYTES];
     tie_rod_run(sheet, sizeof sheet, state, sizeof state, pairs, row * TIE_ROD_PAIR_BYTES, rows, sizeof rows,
                 next, sizeof next);
-    return (uint32_t)next[33] << 24 | (uint32_t)next[34] << 16 | (uint32_t)next[35] << 8 | next[36];
+    const uint8_t *k = next + YIELDED_AT;
+    return (uint32_t)k[0] << 24 | (uint32_t)k[1] << 16 | (uint32_t)k[2] << 8 | k[3];
 }
 
 /* The rows before the one that is named, or all of them: within d + k. */

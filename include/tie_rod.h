@@ -375,16 +375,17 @@ uint64_t tie_rod_section(const uint8_t *sheet, size_t sheet_len,
  * So a refusal is no verdict. A pair that is refused anywhere in the list goes
  * before 16, before 17, and before every row that differs, however early: the
  * verdict waits for the run's end. No buffer is lent for rows or for a next state,
- * so there is no 12. An empty list with no rows is accepted.
+ * so there is no 12. An empty list with no rows is accepted, if the tolerance is
+ * in its range.
  *
- * What a verdict means for an unused rod (SPEC 10, 17): d is the tolerance, k
- * counts our own yielded rows up to a row and with it, and the exact stress is
- * that of the rod which is carried on from the same start without any rounding.
+ * What a verdict means for a rod that began unused (SPEC 17.8): d is the tolerance,
+ * k counts our own yielded rows, from the unused rod on, up to a row and with it,
+ * and the exact stress is that of the rod which is carried on without any rounding.
  *   accepted         each stress of the table is within d + k of the exact one
  *   a row is named   its stress is more than d - k away from the exact one, and
  *                    each stress before it is within d + k of its own exact one
  * A d - k below 0 says nothing. To find k, run the pairs up to the row and with it
- * by tie_rod_run: it is the k of the state that is handed back, its last 4 bytes.
+ * by tie_rod_run: it is the k of the state that is handed back.
  *
  * tie_rod_has_next and tie_rod_rows are not for this answer: the rod isn't moved
  * on, and no row of ours is written. `row` is never NULL, and overlaps no buffer
