@@ -1,20 +1,19 @@
 -- Demand 1 for gradings (SPEC 17.7): a verdict is what the run of the same pairs and the bytes of its rows say. Where the run is refused its
 -- number and place are the verdict's; else 16 and 17 decide, and then the first row that isn't within the tolerance.
-use Prim.Native.Nat.{ℕ, _+_, _*_, _/_, _≤_, _<_}
+use Prim.Native.Nat.{ℕ, _+_, _*_}
 use mathlib.Core.Path.{_≡_, refl, sym, ap, subst, _∙_}
 use mathlib.Core.Bool.{Bool, true, false}
-use mathlib.Core.List.{List, [], _∷_, map}
+use mathlib.Core.List.{List, [], _∷_}
 use mathlib.Core.Logic.{_⊎_, inl, inr}
 use native.Mathlib.Omega.{arith}
-use borrow.Author.Tests.{eqb-true, eqb-false, eq-eqb, ne-eqb, le-ltb}
+use borrow.Author.Tests.{eqb-true, eqb-false, eq-eqb}
 use lib.Dec.{T, eqb}
-use lib.IntN.{ℤ, pos, natAbs, _-ℤ_}
-use lib.Signed.{leZ, _≤ℤ_, leZ-yes}
-use lib.ListN.{length, replicate, length-replicate}
-use Rattle.refusals.specs.Table.{Answer, passes, refused, firstOf, NoneApplies, Given, numbersOf}
-use Rattle.refusals.proofs.FirstLaws.{none-passes, none-join, given-refused, refused-given, refused-anyhow, stops-first, decides}
-use Rattle.pair.specs.Pairs.{pairLength, listRefusals}
-use Rattle.row.specs.Rows.{rowOf, rowLength}
+use lib.Signed.{leZ-yes}
+use lib.ListN.{length, length-replicate}
+use Rattle.refusals.specs.Table.{refused, firstOf, NoneApplies, Given, numbersOf}
+use Rattle.refusals.proofs.FirstLaws.{none-passes, none-join, given-refused, refused-given, stops-first, decides}
+use Rattle.pair.specs.Pairs.{listRefusals}
+use Rattle.row.specs.Rows.{rowLength}
 use Rattle.sheet.specs.declared.Sheet.{Sheet}
 use Rattle.sheet.specs.Sheets.{sheetOf}
 use Rattle.rod.specs.declared.Rod.{Rod}
@@ -22,12 +21,12 @@ use Rattle.state.specs.States.{stateOf, stateLength, zeroState}
 use Rattle.carry.specs.Walk.{Walk, rowsOf, walk}
 use Rattle.carry.proofs.Walks.{walk-all}
 use Rattle.judge.specs.Standing.{readyOf, standingRefusals}
-use Rattle.tie_rod.specs.Calls.{run, Call, pieces, countIn, pairsIn, bufferRefusals, lengthRefusals, callRefusals, Left, callLeaves, placeOf, stopped}
+use Rattle.tie_rod.specs.Calls.{run, Call, countIn, pairsIn, bufferRefusals, lengthRefusals, callRefusals, Left, callLeaves, placeOf, stopped}
 use Rattle.grade.specs.Grades.{Grading, stressAt, agrees, firstOutside, Verdict, verdict, gradingRefusals, verdictBy, verdictOn, gradeOf}
 use Rattle.grade.proofs.GradeLaws.{standing-stops, list-stops, list-walked, walked-refused, walked-last}
 use Rattle.grade.proofs.OutsideLaws.{firstWhere, AllNear, OneOutside, none-outside, first-is-outside, near-or-outside, first-in-bytes}
-use Rattle.demands.specs.Lists.{acceptedBy, acceptedIn}
-use Rattle.demands.specs.Gradings.{ownRun, ran, Agrees, ByRun, ByTable, ByRow, ByAll, GradeReason, GradingAnswered}
+use Rattle.demands.specs.Lists.{acceptedIn}
+use Rattle.demands.specs.Gradings.{ownRun, Agrees, GradeReason, GradingAnswered}
 use Rattle.demands.proofs.Demand1.{when-standing, when-call, when-walked, standing-number, call-number}
 use Rattle.demands.proofs.Accepted.{roomy, upto}
 

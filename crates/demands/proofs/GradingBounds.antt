@@ -25,11 +25,11 @@ use Rattle.rod.specs.declared.Rod.{Rod}
 use Rattle.state.specs.States.{stateOf}
 use Rattle.accuracy.specs.Within.{LastRowShows}
 use Rattle.accuracy.specs.Bar.{barAfter}
-use Rattle.tie_rod.specs.Calls.{pieces, pieceAt, countIn, callLeaves}
+use Rattle.tie_rod.specs.Calls.{pieces, pieceAt, countIn}
 use Rattle.tie_rod.proofs.PieceLaws.{pieces-then}
 use Rattle.grade.specs.Grades.{Grading, stressAt, Verdict, verdict, gradingRefusals, gradeOf}
 use Rattle.grade.proofs.Numbers.{grading-numbers}
-use Rattle.demands.specs.Lists.{Situation, acceptedBy, acceptedIn, Holds, AtCall}
+use Rattle.demands.specs.Lists.{Situation, acceptedIn, Holds, AtCall}
 use Rattle.demands.specs.Gradings.{ownRun, ran, Agrees, GradeReason, behind, yieldedUpTo, CloseAt, FarAt, AtGrading}
 use Rattle.demands.proofs.Splits.{map-append}
 use Rattle.demands.proofs.GradingAnswers.{grading-answered}

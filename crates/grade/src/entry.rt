@@ -95,9 +95,9 @@ pub fn grade(sheet: &[u8], state: &[u8], pairs: &[u8], rows: &[u8], tolerance: i
     let Listed::Pairs(_) = pair::count(pairs.len()) else {
         return Grade::Refused(7, 0);
     };
+    let own = own_number(pairs, rows, tolerance);
     let values = standing.sheet;
     let start = standing.reached;
     let compared = compare::compare(values, start, pairs, rows, Grain(tolerance));
-    let own = own_number(pairs, rows, tolerance);
     verdict(compared, own)
 }

@@ -1,7 +1,7 @@
-use mathlib.Core.Path.{_≡_, sym, ap, _∙_}
+use mathlib.Core.Path.{_≡_, sym, _∙_}
 use borrow.Author.Needs.{needs}
 use borrow.Author.Tests.{ne-eqb}
-use Rattle.refusals.specs.Table.{passes, firstOf, numbered}
+use Rattle.refusals.specs.Table.{passes, firstOf}
 use Rattle.refusals.proofs.FirstLaws.{number-refused, number-passes}
 use Rattle.sheet.specs.Sheets.{sheetRefusals, sheetOf}
 use Rattle.sheet.proofs.Passed.{passed-sound}

@@ -1,7 +1,7 @@
-use mathlib.Core.Path.{_≡_, ap, _∙_}
+use mathlib.Core.Path.{ap, _∙_}
 use borrow.Author.Needs.{needs}
 use native.Mathlib.Omega.{arith}
-use lib.IntN.{pos, natAbs, _-ℤ_}
+use lib.IntN.{pos, natAbs}
 use lib.Signed.{leZ}
 use Rattle.units.specs.declared.Grain.{Grain}
 use Rattle.units.specs.declared.Magnitude.{Magnitude}

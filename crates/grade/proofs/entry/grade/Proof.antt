@@ -1,14 +1,14 @@
 use Prim.Native.Nat.{ℕ, _≤_}
-use mathlib.Core.Path.{_≡_, refl, sym, ap, subst, _∙_}
+use mathlib.Core.Path.{_≡_, sym, ap, subst, _∙_}
 use borrow.Author.Needs.{needs}
 use native.Mathlib.Omega.{arith}
 use lib.IntN.{ℤ}
 use lib.ListN.{length}
 use mir.Facts.{toZ-ofZ}
-use Rattle.refusals.specs.Table.{passes, refused, firstOf, numbered}
+use Rattle.refusals.specs.Table.{passes, firstOf, numbered}
 use Rattle.refusals.proofs.FirstLaws.{number-refused, number-passes}
 use Rattle.ranges.specs.Ranges.{mostPairs}
-use Rattle.pair.specs.Pairs.{listMeaning, listRefusals, pairLength}
+use Rattle.pair.specs.Pairs.{listMeaning, listRefusals}
 use Rattle.carry.specs.Walk.{Walk, walk}
 use Rattle.judge.specs.Standing.{readyOf, standingRefusals}
 use Rattle.tie_rod.specs.Calls.{run, countIn, pairsIn}
@@ -62,13 +62,13 @@ few c =
 
 compare-requires : tie.Need-compare-requires
 compare-requires c κs =
-    let told = c .before .before in
+    let told = c .before .before .before in
     let passed = told .before .before .before in
     (passed .before .judge .ensures .1 (passed .if1 .left), few told)
 
 -- from the compared rows to the list
 abbrev told-of : tie.After-compare → tie.After-enum-told
-told-of c = c .before .before .before
+told-of c = c .before .before .before .before
 
 abbrev start-of : tie.After-compare → tie.Start
 start-of c = start (told-of c .before .before .before .before)
@@ -90,12 +90,12 @@ compared-is c =
     c .compare .ensures ∙ ap (λ (d : ℤ). comparedOf d (s .args .rows .now) (walked c)) (toZ-ofZ (s .fits .tolerance))
 
 own-number-requires : tie.Need-own-number-requires
-own-number-requires c κs = few (told-of c)
+own-number-requires c κs = few c
 
 returns-3 : tie.Need-returns-3
 returns-3 c =
-    let own = c .before in
-    let compared = own .before in
+    let compared = c .before in
+    let own = compared .before .before .before in
     let s = start-of compared in
     let g = gradingOf s in
     let n = own .own-number .result in
@@ -116,7 +116,7 @@ grade-spec =
     (λ c. search needs)
     (λ c. search needs)
     returns-2
-    compare-requires
     own-number-requires
+    compare-requires
     (λ c κs. search needs)
     returns-3)

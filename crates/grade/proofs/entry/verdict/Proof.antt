@@ -1,4 +1,4 @@
-use mathlib.Core.Path.{_≡_, refl}
+use mathlib.Core.Path.{refl}
 use borrow.Author.Tests.{eq-eqb, ne-eqb}
 use Rattle.grade.proofs.entry.verdict.Statement.{statement}
 use Rattle.grade.proofs.entry.verdict.Tie as tie
