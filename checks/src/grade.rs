@@ -191,16 +191,16 @@ impl Beside {
     }
 }
 
-/// Whether a reader may rely on a verdict: each row before the named one, all of them where none is, is within d + k of
-/// the exact stress, and the named one more than d − k away from it.
+/// Whether a reader may rely on a verdict: the rows before the named one, or all of them where none is, lie at most
+/// d + k from their exact stresses, and the named one farther than d − k.
 pub fn holds(rows: &[Beside], tolerance: i64, named: u64) -> Result<(), &'static str> {
     let before = if named == 0 { rows.len() } else { named as usize - 1 };
     if rows[..before].iter().any(|row| row.error() > Fraction::from(tolerance + row.k)) {
-        return Err("an accepted row is within d + k of the exact stress");
+        return Err("a row that is no further than d + k off");
     }
     match rows.get(before) {
         Some(row) if row.error() <= Fraction::from(tolerance - row.k) => {
-            Err("the named row is more than d - k away from the exact stress")
+            Err("a named row that is further than d - k off")
         }
         _ => Ok(()),
     }

@@ -571,8 +571,8 @@ impl Nearness {
     }
 }
 
-/// Over the bar: of every version's verdict each row before the named one is within d + k of the exact stress, and the
-/// named one more than d − k away; k is what a run up to that row, by the same version, has in its state.
+/// Over the bar, of every version's verdict: rows before the named one lie at most d + k from their exact stresses, and
+/// that one lies farther than d − k; k is what a run up to the row, by the same version, has in its state.
 fn relied_on(seed: u64, lists: i64, longest_history: i64) -> Nearness {
     let mut random = Random::new(seed);
     let mut near = Nearness::default();

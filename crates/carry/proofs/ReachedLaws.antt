@@ -10,6 +10,7 @@ use Rattle.units.specs.declared.Nano.{Nano}
 use Rattle.sheet.specs.declared.Sheet.{Sheet}
 use Rattle.sheet.specs.Thermal.{thermalOf}
 use Rattle.pair.specs.declared.Pair.{Pair}
+use Rattle.row.specs.declared.Row.{Row}
 use Rattle.response.specs.declared.Limits.{Limits}
 use Rattle.response.specs.Limits.{limitsOf, limitsAfter}
 use Rattle.response.proofs.LimitLaws.{limits-kept}
@@ -48,13 +49,23 @@ pub stands-next : {h : Sheet} {x y : Reached} (pair : List ℕ) {a : Advance} �
 stands-next {h} pair {a} stands e is =
     subst (Stands h) (sym is) (record { accepted = next-passes pair (stands .accepted) e .0 .accepted; reached = refl })
 
--- What an answer says of the pair's table.
-pub tried-accepted : (h : Sheet) (x : Answer Advance) {c : Carried} → passes c ≡ withReached h x
-    → (x ≡ passes (record { rod = c .to .rod; row = c .row })) × (c .to ≡ reachedOf h (c .to .rod))
+-- What an accepted trial leads to: the pair's table passes with this rod and row, and what goes along is the rod's own.
+pub record Leads (h : Sheet) (x : Answer Advance) (to : Reached) (row : Row) : Type 0 where
+  pub answer : x ≡ passes (record { rod = to .rod; row = row })
+  pub own : to ≡ reachedOf h (to .rod)
+
+pub tried-accepted : (h : Sheet) (x : Answer Advance) {c : Carried} → passes c ≡ withReached h x → Leads h x (c .to) (c .row)
 tried-accepted h (passes a) {c} e =
     let same : c ≡ record { to = reachedOf h (a .rod); row = a .row } = cc in
-    (λ i. passes (record { rod = sym same i .to .rod; row = sym same i .row }), (λ i. same i .to) ∙ (λ i. reachedOf h (sym same i .to .rod)))
+    record {
+      answer = λ i. passes (record { rod = sym same i .to .rod; row = sym same i .row });
+      own = (λ i. same i .to) ∙ (λ i. reachedOf h (sym same i .to .rod));
+    }
 tried-accepted h (refused n) {c} e = let z : _≡_ {A = ℕ} 0 1 = cc in absurd (omega arith)
+
+-- Kept, it leads to the same.
+pub kept-leads : {h : Sheet} {x : Answer Advance} {to kept : Reached} {row : Row} → Leads h x to row → kept ≡ to → Leads h x kept row
+kept-leads {h} {x} {row} leads is = subst (λ (y : Reached). Leads h x y row) (sym is) leads
 
 pub tried-refused : (h : Sheet) (x : Answer Advance) {n : ℕ} → refused n ≡ withReached h x → x ≡ refused n
 tried-refused h (passes a) {n} e = let z : _≡_ {A = ℕ} 0 1 = cc in absurd (omega arith)

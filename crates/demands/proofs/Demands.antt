@@ -29,10 +29,10 @@ pub demand-2 : (sheet state : List ℕ) → NoneApplies (standingRefusals sheet 
     → (sound : SheetSound (sheetOf sheet)) × SolvedFrom sheet state sound
 demand-2 = all-solved
 
--- SPEC 11.8 to 11.11, 11.15, 11.16, 15.11, 17.8, demand 3: for any sheet from which an unused rod is made, and any list of single pairs, runs,
--- trials and keepings that begins with that rod, the stored rod lies at every stop within k grains of the bar without rounding that is fed
--- the history, and its k and n are true; and so for each member of a section whose members begin as such rods, behind any list of section
--- calls. A table graded from where such a list has come to lies within d + k of that bar in each row before the one that is named, or in
--- all, and more than d - k away in that one.
+-- SPEC 11.8 to 11.11, 11.15, 11.16, 15.11, 17.8, demand 3: for any sheet from which an unused rod is made, and any list of single pairs,
+-- runs, trials and keepings that begins with that rod, the stored rod lies at every stop within k grains of the bar without rounding that
+-- is fed the history, and its k and n are true; and so for each member of a section whose members begin as such rods, behind any list of
+-- section calls. A table graded from where such a list has come to lies within d + k of that bar in each row before the one that is named,
+-- or in all, and more than d - k away in that one.
 pub demand-3 : (sheet first : List ℕ) → unusedAnswer sheet ≡ passes first → (sound : SheetSound (sheetOf sheet)) × WithinFrom sheet sound first
 demand-3 = within-from

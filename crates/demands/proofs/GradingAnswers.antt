@@ -1,5 +1,5 @@
--- Demand 1 for gradings (SPEC 17.7): a verdict is what the run of the same pairs and the bytes of its rows say. Where the run is refused its
--- number and place are the verdict's; else 16 and 17 decide, and then the first row that isn't within the tolerance.
+-- Demand 1 for gradings (SPEC 17.7): a verdict is what the run of the same pairs and the bytes of its rows say. Where the run is refused
+-- its number and place are the verdict's; else 16 and 17 decide, and then the first row that isn't within the tolerance.
 use Prim.Native.Nat.{ℕ, _+_, _*_}
 use mathlib.Core.Path.{_≡_, refl, sym, ap, subst, _∙_}
 use mathlib.Core.Bool.{Bool, true, false}

@@ -1,5 +1,5 @@
--- Demand 3 for gradings (SPEC 17.8): what a verdict says of their stresses beside the bar without rounding. It follows from demand 3 of the run
--- of the same pairs, whose rows the verdict compares theirs with.
+-- Demand 3 for gradings (SPEC 17.8): what a verdict says of their stresses beside the bar without rounding. It follows from demand 3 of the
+-- run of the same pairs, whose rows the verdict compares theirs with.
 use Prim.Native.Nat.{ℕ, _+_, _≤_, _<_}
 use mathlib.Core.Path.{_≡_, refl, sym, ap, subst, _∙_}
 use mathlib.Core.Bool.{Bool, true, false, not}

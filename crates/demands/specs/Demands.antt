@@ -1,7 +1,7 @@
 -- What demands 1 and 2 claim of calls on bytes (SPEC 9.11 to 9.13, 16.9): the single pair, the run, the trial and its keeping, the forecast
 -- and the unused rod, on any bytes of any lengths; cited by proofs/Demands. Definitions only, over what a call leaves and never over the
--- program; nothing is assumed. What demand 1 claims of trials, keepings, gradings and sections is in Trials, Gradings and Sections; demand 3,
--- over lists, is AtEveryStop in Lists and WithinFrom in Sections.
+-- program; nothing is assumed. What demand 1 claims of trials, keepings, gradings and sections is in Trials, Gradings and Sections; demand
+-- 3, over lists, is AtEveryStop in Lists and WithinFrom in Sections.
 use Prim.Native.Nat.{ℕ, _+_, _*_, _≤_, _<_}
 use mathlib.Core.Path.{_≡_}
 use mathlib.Core.Bool.{false}

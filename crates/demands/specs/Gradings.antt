@@ -1,5 +1,5 @@
--- What is claimed of gradings (SPEC 17.7, 17.8): their verdicts over the bytes that a run of the same pairs leaves, and over the bar without
--- rounding; cited by proofs/Demands. Definitions only, over what a run leaves and never over the program; nothing is assumed.
+-- What is claimed of gradings (SPEC 17.7, 17.8): their verdicts over the bytes that a run of the same pairs leaves, and over the bar
+-- without rounding; cited by proofs/Demands. Definitions only, over what a run leaves and never over the program; nothing is assumed.
 use Prim.Native.Nat.{ℕ, _+_, _*_, _<_}
 use mathlib.Core.Path.{_≡_}
 use mathlib.Core.List.{List, [], _∷_}

@@ -1,5 +1,5 @@
--- Grading (SPEC 17.4, 17.5). The loop that compares rows: before each pair the first row outside the tolerance is known of the pairs so far, and so of
--- the whole list where the loop ends. And the verdict, stage by stage.
+-- Grading (SPEC 17.4, 17.5). The loop that compares rows: before each pair the first row outside the tolerance is known of the pairs so
+-- far, and so of the whole list where the loop ends. And the verdict, stage by stage.
 use Prim.Native.Nat.{ℕ, suc, _+_, _^_, _≤_, _<_}
 use mathlib.Core.Path.{_≡_, refl, sym, ap, _∙_}
 use mathlib.Core.Bool.{Bool, true, false, not, _||_, cond}

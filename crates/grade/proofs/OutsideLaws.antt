@@ -1,4 +1,5 @@
--- The first row outside the tolerance (SPEC 17.4), told from the rows in bytes: all agree, or there is one that doesn't and that all before it do.
+-- The first row outside the tolerance (SPEC 17.4), told from the rows in bytes: all agree, or there is one that doesn't and that all before
+-- it do.
 use Prim.Native.Nat.{ℕ, zero, suc, _+_, _*_, _≤_, _<_}
 use mathlib.Core.Path.{_≡_, refl, sym, ap, _∙_}
 use mathlib.Core.Bool.{Bool, true, false, cond}

@@ -1,5 +1,5 @@
--- How the code comes to a verdict (SPEC 17.4): row by row, with the first that is outside the tolerance so far; cited by the contracts of this
--- crate alone. Definitions only, nothing is assumed.
+-- How the code comes to a verdict (SPEC 17.4): row by row, with the first that is outside the tolerance so far; cited by the contracts of
+-- this crate alone. Definitions only, nothing is assumed.
 use Prim.Native.Nat.{ℕ, _+_}
 use mathlib.Core.Bool.{Bool, not, _||_, cond}
 use mathlib.Core.List.{List}

@@ -1,5 +1,5 @@
--- Grading another firm's table (SPEC 17): the verdict on their rows, cited by the contracts of this crate and of grade_c and by the demands;
--- definitions only, for any bytes and any tolerance, nothing is assumed.
+-- Grading another firm's table (SPEC 17): the verdict on their rows, cited by the contracts of this crate and of grade_c and by the
+-- demands; definitions only, for any bytes and any tolerance, nothing is assumed.
 use Prim.Native.Nat.{ℕ, _+_, _*_}
 use mathlib.Core.Path.{_≡_}
 use mathlib.Core.Bool.{Bool, not, cond}
@@ -22,8 +22,8 @@ use Rattle.tie_rod.specs.Calls.{pieceAt, countIn, pairsIn, placeOf}
 use Rattle.grade.specs.declared.Grade.{Grade}
 use Rattle.grade.specs.declared.Grade.the-variants as grades
 
--- SPEC 17.2: what is graded, beside sheet and state: the bytes of the pairs and of their rows, and how far their stresses may lie from ours,
--- in grains. Any bytes, any lengths, any whole number.
+-- SPEC 17.2: what is graded, beside sheet and state: the bytes of the pairs and of their rows, and how far their stresses may lie from
+-- ours, in grains. Any bytes, any lengths, any whole number.
 pub record Grading : Type 0 where
   pub pairs : List ℕ
   pub rows : List ℕ
@@ -42,8 +42,8 @@ stressAt rows j = rowOf (pieceAt rowLength j rows) .stress .0
 abbrev pub agrees : (tolerance theirs ours : ℤ) → Bool
 agrees tolerance theirs ours = leZ (pos (natAbs (theirs -ℤ ours))) tolerance
 
--- SPEC 17.4: the first row, counted from 1, whose stress isn't within the tolerance of ours; 0 where there is none. `ours` are our rows from
--- row j on, counted from 0.
+-- SPEC 17.4: the first row, counted from 1, whose stress isn't within the tolerance of ours; 0 where there is none. `ours` are our rows
+-- from row j on, counted from 0.
 unfoldable pub firstOutside : (tolerance : ℤ) → (theirs : List ℕ) → (j : ℕ) → (ours : List Row) → ℕ
 firstOutside tolerance theirs j [] = 0
 firstOutside tolerance theirs j (row ∷ ours) =

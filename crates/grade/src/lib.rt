@@ -1,5 +1,5 @@
-// Grading another firm's table (SPEC 17): whether each of their stresses lies within a tolerance of ours. A row of ours is compared as it is
-// made, and none is stored.
+// Grading another firm's table (SPEC 17): whether each of their stresses lies within a tolerance of ours. A row of ours is compared as it
+// is made, and none is stored.
 mod compare; // compare.rt: their rows beside ours, pair by pair
 pub mod entry; // entry.rt: the entry
 

@@ -1,5 +1,5 @@
--- A sheet and a state judged together: refusals 1 to 6 and 13, the first stage of a call (SPEC 8.6, 8.9), cited by calls, logs and the
--- demands; definitions only, for any bytes, nothing is assumed.
+-- A sheet and a state judged together: refusals 1 to 6 and 13, the first stage of a call (SPEC 8.6, 8.9), cited by calls, gradings, logs
+-- and the demands; definitions only, for any bytes, nothing is assumed.
 use Prim.Native.Nat.{ℕ}
 use mathlib.Core.List.{List, _++_}
 use Rattle.refusals.specs.Table.{Refusal, Answer, numbered}

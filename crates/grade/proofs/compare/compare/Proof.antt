@@ -1,15 +1,14 @@
 use Prim.Native.Nat.{_-_}
-use mathlib.Core.Path.{_≡_, sym, ap, subst, _∙_}
+use mathlib.Core.Path.{sym, ap, _∙_}
 use borrow.Author.Needs.{needs}
 use native.Mathlib.Omega.{arith}
-use Rattle.refusals.specs.Table.{Answer, passes}
+use Rattle.refusals.specs.Table.{Answer}
 use Rattle.pair.specs.Pairs.{pairLength}
 use Rattle.rod.specs.declared.step.Advance.{Advance}
 use Rattle.carry.specs.Walk.{pairAnswer}
-use Rattle.carry.specs.declared.Reached.{Reached}
-use Rattle.carry.specs.Reaching.{reachedOf, triedMeaning, Stands}
+use Rattle.carry.specs.Reaching.{triedMeaning, Stands}
 use Rattle.carry.proofs.PairAnswers.{next-passes, pair-numbered}
-use Rattle.carry.proofs.ReachedLaws.{stands-next, tried-accepted, tried-refused}
+use Rattle.carry.proofs.ReachedLaws.{Leads, stands-next, tried-accepted, kept-leads, tried-refused}
 use Rattle.tie_rod.specs.Calls.{pieceAt}
 use Rattle.tie_rod.proofs.WalkLaws.{pair-there}
 use Rattle.grade.proofs.GradeLaws.{Graded, graded-start, graded-next, graded-refused, graded-last, stress-small}
@@ -42,7 +41,7 @@ answer c = let a = start (head c) .args in pairAnswer (a .sheet) (head c .loop .
 
 -- it is accepted
 accepted : (c : tie.After-carried Inv-loop μ-loop) → let trial = c .before .before in let carried = c .carried .given .0 .0 in
-    (answer trial ≡ passes (record { rod = carried .to .rod; row = carried .row })) × (carried .to ≡ reachedOf (start (head trial) .args .sheet) (carried .to .rod))
+    Leads (start (head trial) .args .sheet) (answer trial) (carried .to) (carried .row)
 accepted c = let trial = c .before .before in tried-accepted (start (head trial) .args .sheet) (answer trial) (ap triedMeaning (sym (c .carried .given .1)) ∙ trial .trial-at .ensures)
 
 first-outside-requires : tie.Need-first-outside-requires Inv-loop μ-loop
@@ -50,7 +49,7 @@ first-outside-requires c κs =
     let carried = c .before .before .before in
     let trial = carried .before .before in
     let inv = head trial .loop .inv in
-    (omega (arith, start (head trial) .pre .1, trial .before .loop-test .taken), stress-small (carried .carried .given .0 .0 .row .stress .0) (next-passes _ (inv .1 .accepted) (accepted carried .0) .1 .stress))
+    (omega (arith, start (head trial) .pre .1, trial .before .loop-test .taken), stress-small (carried .carried .given .0 .0 .row .stress .0) (next-passes _ (inv .1 .accepted) (accepted carried .answer) .1 .stress))
 
 returns : tie.Need-returns Inv-loop μ-loop
 returns c =
@@ -70,21 +69,13 @@ add-i c =
     let trial = carried-of c .before .before in
     record { fits = omega (arith, start (head trial) .pre .1, trial .before .loop-test .taken) }
 
--- and kept
-kept : (c : tie.After-keep Inv-loop μ-loop) → let carried = carried-of c in let trial = carried .before .before in
-    (answer trial ≡ passes (record { rod = c .keep .result .rod; row = carried .carried .given .0 .0 .row }))
-    × (c .keep .result ≡ reachedOf (start (head trial) .args .sheet) (c .keep .result .rod))
-kept c =
-    let carried = carried-of c in
-    let trial = carried .before .before in
-    subst (λ (x : Reached). (answer trial ≡ passes (record { rod = x .rod; row = carried .carried .given .0 .0 .row }))
-    × (x ≡ reachedOf (start (head trial) .args .sheet) (x .rod))) (sym (c .keep .ensures)) (accepted carried)
-
 loop-again : tie.Need-loop-again Inv-loop μ-loop
 loop-again c =
-    let trial = carried-of c .before .before in
+    let carried = carried-of c in
+    let trial = carried .before .before in
     let inv = head trial .loop .inv in
-    (graded-next _ _ (inv .0) (trial .before .loop-test .taken) (kept c .0) (c .before .first-outside .ensures), stands-next _ (inv .1) (kept c .0) (kept c .1))
+    let kept = kept-leads (accepted carried) (c .keep .ensures) in
+    (graded-next _ _ (inv .0) (trial .before .loop-test .taken) (kept .answer) (c .before .first-outside .ensures), stands-next _ (inv .1) (kept .answer) (kept .own))
 
 returns-2 : tie.Need-returns-2 Inv-loop μ-loop
 returns-2 c = graded-last _ _ (c .before .loop .inv .0) (c .loop-test .left)

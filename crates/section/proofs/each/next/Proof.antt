@@ -33,7 +33,7 @@ moves : (c : tie.After-carried) → let s = c .before .before .before .before .b
 moves c =
     let tried = c .before .before in
     let s = tried .before .before .before in
-    tried-accepted (s .args .movement .sheet) (answer s) (ap triedMeaning (sym (c .carried .given .1)) ∙ tried .tried .ensures) .0
+    tried-accepted (s .args .movement .sheet) (answer s) (ap triedMeaning (sym (c .carried .given .1)) ∙ tried .tried .ensures) .answer
 
 -- the rod that is kept is the one that the trial came to
 kept-is : (c : tie.After-keep) → c .keep .result .rod ≡ c .before .before .carried .given .0 .0 .to .rod

@@ -51,7 +51,7 @@ moves : (c : tie.After-carried) → let s = c .before .before .before .before .b
 moves c =
     let tried = c .before .before in
     let s = tried .before .before .before .before .before .before in
-    tried-accepted (s .args .movement .sheet) (answer s) (ap triedMeaning (sym (c .carried .given .1)) ∙ tried .tried .ensures) .0
+    tried-accepted (s .args .movement .sheet) (answer s) (ap triedMeaning (sym (c .carried .given .1)) ∙ tried .tried .ensures) .answer
 
 added-requires : tie.Need-added-requires
 added-requires c κs =
