@@ -9,7 +9,7 @@ use native.Mathlib.Omega.{arith}
 use borrow.Author.Tests.{eq-eqb, ne-eqb}
 use lib.IntN.{ℤ, pos, negsuc, natAbs}
 use lib.Dec.{eqb}
-use lib.ListN.{length}
+use lib.ListN.{length, length-map}
 use Rattle.refusals.specs.Table.{Answer, passes, refused, numbered, firstOf}
 use Rattle.refusals.proofs.FirstLaws.{stops-first, goes-on, refused-anyhow, passes-anyhow, told-anyhow}
 use Rattle.bits.specs.Field.{Held}
@@ -85,11 +85,7 @@ module _ (tolerance : ℤ) (theirs : List ℕ) where
     ours = rowsOf (g .along .advances)
 
     ours-counted : length ours ≡ i
-    ours-counted = rows-long (g .along .advances) ∙ counted (g .along)
-      where
-        rows-long : (advances : List Advance) → length (rowsOf advances) ≡ length advances
-        rows-long [] = refl
-        rows-long (a ∷ advances) = ap suc (rows-long advances)
+    ours-counted = length-map (g .along .advances) (λ (a : Advance). a .row) ∙ counted (g .along)
 
     pub graded-next : {a : Advance} {first′ : ℕ} → i < countIn pairs → pairAnswer h now (pieceAt pairLength i pairs) ≡ passes a
         → first′ ≡ outsideAfter first (near i (a .row)) i → Graded h pairs r (a .rod) first′ (i + 1)

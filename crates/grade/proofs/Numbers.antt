@@ -2,12 +2,12 @@
 use Prim.Native.Nat.{ℕ, _≤_, _<_}
 use mathlib.Core.Path.{_≡_, refl, subst}
 use mathlib.Core.Bool.{Bool, true, false, cond}
-use mathlib.Core.List.{List, [], _∷_, _++_}
+use mathlib.Core.List.{List}
 use native.Mathlib.Omega.{arith}
 use lib.Dec.{eqb}
 use lib.ListN.{length}
-use Rattle.refusals.specs.Table.{Refusal, Answer, passes, refused, firstOf}
-use Rattle.refusals.proofs.FirstLaws.{AllNumbers, Numbered, line, answer-number, both-pass, passes-given, passes-anyhow}
+use Rattle.refusals.specs.Table.{Answer, passes, refused, firstOf}
+use Rattle.refusals.proofs.FirstLaws.{AllNumbers, numbers-join, Numbered, line, answer-number, both-pass, passes-given, passes-anyhow}
 use Rattle.ranges.specs.Ranges.{mostPairs}
 use Rattle.pair.specs.Pairs.{pairLength, listRefusals}
 use Rattle.sheet.specs.Sheets.{sheetOf}
@@ -23,10 +23,6 @@ use Rattle.grade.specs.Grades.{Grading, firstOutside, Verdict, verdict, 
 pub record Small (v : Verdict) : Type 0 where
   pub number : v .number < 256
   pub place : v .place ≤ mostPairs
-
-numbers-join : (first second : List Refusal) → AllNumbers Numbered first → AllNumbers Numbered second → AllNumbers Numbered (first ++ second)
-numbers-join [] second all more = more
-numbers-join (r ∷ first) second (this, all) more = (this, numbers-join first second all more)
 
 module _ (g : Grading) where
   pub list-numbers : AllNumbers Numbered (listRefusals (length (g .pairs)))
@@ -70,7 +66,7 @@ grade-small sheet state g = by-opening (firstOf (openingRefusals sheet state g) 
     by-opening (refused n) e =
         record {
           number = answer-number Numbered (openingRefusals sheet state g) told
-              (numbers-join (standingRefusals sheet state) (listRefusals (length (g .pairs))) (standing-numbers sheet state) (list-numbers g)) e .1;
+              (numbers-join Numbered (standingRefusals sheet state) (listRefusals (length (g .pairs))) (standing-numbers sheet state) (list-numbers g)) e .1;
           place = omega arith;
         }
     by-opening (passes v) e =

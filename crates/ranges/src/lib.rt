@@ -56,7 +56,7 @@ pub const LEAST_CURVATURE: i64 = -1000000;
 
 pub const MOST_CURVATURE: i64 = 1000000;
 
-// How far a graded stress may lie from ours, in grains.
+// The greatest tolerance of a grading, in grains.
 pub const MOST_TOLERANCE: i64 = 1000000000000;
 
 // Whether a number lies within its bounds, both included.

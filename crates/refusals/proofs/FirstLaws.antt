@@ -47,6 +47,10 @@ abbrev pub AllNumbers : (ℕ → Type 0) → List Refusal → Type 0
 AllNumbers P [] = Unit {0}
 AllNumbers P (r ∷ rest) = P (r .number) × AllNumbers P rest
 
+pub numbers-join : (P : ℕ → Type 0) (first second : List Refusal) → AllNumbers P first → AllNumbers P second → AllNumbers P (first ++ second)
+numbers-join P [] second all more = more
+numbers-join P (r ∷ first) second (this, all) more = (this, numbers-join P first second all more)
+
 -- SPEC 9.10: what holds of every number in the tables: none is 0, and each fits a byte.
 abbrev pub Numbered : ℕ → Type 0
 Numbered n = (n ≡ 0 → ⊥) × (n < 256)
