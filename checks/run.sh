@@ -73,7 +73,7 @@ for log in examples/*.log examples/logs/*.log; do
 done
 (head -c 57 examples/third_row.log && cat /dev/zero) 2>"$out/log" |
     (ulimit -v 32768 && timeout 20 "$program") >"$out/text"
-printf 'pair stress plastic tangent yielded\nrefused 7 at 0\n' >"$out/expected"
+printf 'pair stress plastic tangent yielded branch\nrefused 7 at 0\n' >"$out/expected"
 quiet diff "$out/expected" "$out/text"
 echo "walk_log: $logs logs print as stored; endless input is refused"
 

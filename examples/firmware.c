@@ -85,12 +85,27 @@ static void print_mpa(int64_t grains)
     printf(" %s%" PRIu64 ".%09" PRIu64, grains < 0 ? "-" : "", magnitude / 1000000000u, magnitude % 1000000000u);
 }
 
+/* Which branch of the law gave a row. */
+static const char *branch_name(int64_t branch)
+{
+    switch (branch) {
+    case TIE_ROD_ELASTIC:
+        return "elastic";
+    case TIE_ROD_TENSION:
+        return "tension flow";
+    case TIE_ROD_COMPRESSION:
+        return "compression flow";
+    default:
+        return "no branch of ours";
+    }
+}
+
 static void print_rows(const uint8_t *rows, size_t count)
 {
     for (size_t i = 0; i < count; i++) {
         size_t at = 8 * TIE_ROD_ROW_BYTES * i;
-        int yielded = (int)take(rows, &at, 1, 0);
-        at += 3; /* zero bits */
+        at += 1; /* yielded: 1 exactly where the branch isn't 0 */
+        int64_t branch = take(rows, &at, 3, 0);
         int64_t tangent = take(rows, &at, 20, 0);
         int64_t stress = take(rows, &at, 48, 1);
         int64_t plastic = take(rows, &at, 56, 1);
@@ -98,7 +113,7 @@ static void print_rows(const uint8_t *rows, size_t count)
         print_mpa(stress);
         printf(" MPa, E times plastic strain");
         print_mpa(plastic);
-        printf(" MPa, tangent %" PRId64 " MPa%s\n", tangent, yielded ? ", yielded" : "");
+        printf(" MPa, tangent %" PRId64 " MPa, %s\n", tangent, branch_name(branch));
     }
 }
 

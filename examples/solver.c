@@ -44,7 +44,20 @@ static int64_t stress_of(const uint8_t *row)
     return field(row + 3, 6);
 }
 
-/* Behind the yielded bit and three zero bits, in 20 bits. */
+/* Behind the yielded bit, in 3 bits. */
+static const char *branch_of(const uint8_t *row)
+{
+    switch (row[0] >> 4 & 7) {
+    case TIE_ROD_TENSION:
+        return ", tension flow";
+    case TIE_ROD_COMPRESSION:
+        return ", compression flow";
+    default:
+        return "";
+    }
+}
+
+/* Behind the branch, in 20 bits. */
 static int64_t tangent_of(const uint8_t *row)
 {
     return (int64_t)(row[0] & 0x0f) << 16 | row[1] << 8 | row[2];
@@ -67,7 +80,7 @@ static uint64_t try_change(int32_t change, uint8_t *row, uint8_t *trial)
     printf("  %+" PRId32 " nano: ", change);
     if (tie_rod_rows(answer, sizeof pair) == 1)
         printf("stress %" PRId64 " grains, E times plastic strain %" PRId64 " grains%s\n", stress_of(row),
-               field(row + 9, 7), row[0] & 0x80 ? ", yielded" : "");
+               field(row + 9, 7), branch_of(row));
     else
         printf("refused with %u at pair %zu\n", tie_rod_number(answer), tie_rod_place(answer));
     return answer;

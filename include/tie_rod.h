@@ -76,10 +76,19 @@
  *
  * Result row (SPEC 3.14): 16 bytes.
  *   yielded        1   1 if the pair passed a yield limit
- *   zero           3   0
+ *   branch         3   which branch of the law gave the row: 0 elastic, 1 tension
+ *                      flow, 2 compression flow
  *   tangent       20   E, or after a flow that of the segment reached
  *   stress        48 s
  *   plastic       56 s E times plastic strain, in grains
+ *   The branch is row[0] >> 4 & 7, behind the yielded bit of the same byte, and
+ *   yielded is 1 exactly when it isn't 0. It says which way plastic strain went:
+ *   1 grew, 2 fell, 0 stayed (SPEC 7.7). Neither the sign of the strain change nor
+ *   that of the stress tells as much: a rod that is heated can flow in compression
+ *   though it is stretched, and under law 2 the branch is the side of the old centre
+ *   X on which the trial stress lies, so that a tension flow can end at a negative
+ *   stress. It is decided before anything is rounded: a flow of less than a grain
+ *   can leave `plastic` as it was.
  */
 #ifndef TIE_ROD_H
 #define TIE_ROD_H
@@ -110,6 +119,13 @@ extern "C" {
 #define TIE_ROD_CURVATURE_MAX 1000000
 /* The greatest tolerance of a grading, in grains; the least is 0. */
 #define TIE_ROD_TOLERANCE_MAX 1000000000000
+
+/* The branches of a row (SPEC 3.14, 7.7), each as row[0] >> 4 & 7 has it. A row of ours has no other. */
+enum tie_rod_branches {
+    TIE_ROD_ELASTIC = 0,     /* nothing flowed, and yielded is 0 */
+    TIE_ROD_TENSION = 1,     /* plastic strain grew */
+    TIE_ROD_COMPRESSION = 2  /* plastic strain fell */
+};
 
 /*
  * The numbers (SPEC 8.2). A call answers the first of them that applies, in this
@@ -353,7 +369,7 @@ uint64_t tie_rod_section(const uint8_t *sheet, size_t sheet_len,
  * Grading another firm's table (SPEC 17): carries the rod over the pairs as
  * tie_rod_run does, and holds each stress in `rows` against ours. `rows` is their
  * table, a result row for each pair. Of each row the stress field alone is read:
- * whatever bits stand beside it, they have no say.
+ * whatever bits stand beside it, yielded and branch among them, they have no say.
  *
  * The table is accepted exactly when every stress of theirs is within `tolerance`
  * grains of ours, |theirs - ours| <= tolerance. The tolerance is 0 to

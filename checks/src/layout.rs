@@ -47,8 +47,13 @@ pub const STATE: [Field; 10] = [
 
 pub const PAIR: [Field; 3] = [unsigned("kind", 3), signed("strain change", 29), signed("temperature", 16)];
 
-pub const ROW: [Field; 5] =
-    [unsigned("yielded", 1), unsigned("zero", 3), unsigned("tangent", 20), signed("stress", 48), signed("plastic", 56)];
+pub const ROW: [Field; 5] = [
+    unsigned("yielded", 1),
+    unsigned("branch", 3),
+    unsigned("tangent", 20),
+    signed("stress", 48),
+    signed("plastic", 56),
+];
 
 pub const SHEET_BYTES: usize = 14;
 pub const SEGMENT_BYTES: usize = 6;
@@ -136,6 +141,8 @@ mod tests {
         assert_eq!(write(&POINT, [-2, 1, 3]), [0xff, 0xfe, 0x40, 0x03]);
         assert_eq!(write(&SHEET, [0, 0, 0, 0, 0, 0, 0, 0, 2, 5])[13], 0x25);
         assert_eq!(write(&ROW, [1, 0, 1, -1, 1])[..4], [0x80, 0x00, 0x01, 0xff]);
+        assert_eq!(write(&ROW, [1, 1, 0xf_0000, 0, 0])[0], 0x9f);
+        assert_eq!(read(&ROW, &[0xa0; 16])[..2], [1, 2]);
     }
 
     #[test]

@@ -5,6 +5,7 @@
 
 pub mod bar;
 pub mod big;
+pub mod branch;
 pub mod bundle;
 pub mod call;
 pub mod fraction;

@@ -3,6 +3,7 @@
 //! without rounding, which is fed the history, and against counts of it.
 
 use crate::bar::Bar;
+use crate::branch;
 use crate::call::{difference, hex, Call, Entry, Outcome};
 use crate::fraction::Fraction;
 use crate::layout::{PAIR_BYTES, ROW_BYTES, STATE_BYTES};
@@ -15,13 +16,15 @@ pub type Held<T> = Result<T, String>;
 
 // ---- the history ----
 
-/// A history: the bar that was fed it, its pairs, and its rows that are marked as yielded.
+/// A history: the bar that was fed it, its pairs, its rows that are marked as yielded, and E times plastic strain in
+/// the last of its rows.
 #[derive(Clone)]
 struct History<'a> {
     sheet: &'a Sheet,
     bar: Bar<'a>,
     pairs: Vec<u8>,
     yielded: i64,
+    plastic: i64,
 }
 
 impl History<'_> {
@@ -35,6 +38,10 @@ impl History<'_> {
         self.bar.feed(&rules::read_pair(pair).map_err(|_| "an accepted pair passes 8")?);
         self.pairs.extend(pair);
         self.yielded += row.yielded as i64;
+        holds(row.yielded == (row.branch != 0), "a row is marked as yielded exactly where its branch isn't 0")?;
+        let goes_so = branch::goes_with(self.sheet.law as i64, row.branch, row.plastic - self.plastic);
+        holds(goes_so, "the branch is the way that plastic strain goes")?;
+        self.plastic = row.plastic;
         Ok(())
     }
 
@@ -161,7 +168,7 @@ impl Seen {
 
 impl<'a> List<'a> {
     pub fn new(version: Version, model: Option<Version>, sheet_bytes: &'a [u8], sheet: &'a Sheet) -> Held<List<'a>> {
-        let history = History { sheet, bar: Bar::new(sheet), pairs: Vec::new(), yielded: 0 };
+        let history = History { sheet, bar: Bar::new(sheet), pairs: Vec::new(), yielded: 0, plastic: 0 };
         let (state, seen) = (Vec::new(), Seen::default());
         let mut list = List { version, model, sheet_bytes, history, state, seen };
         let outcome = list.left_by(&list.given(Entry::Unused, &[], 0, STATE_BYTES))?;

@@ -55,8 +55,8 @@ fn isotropic_line() {
 #[test]
 fn third_row_as_printed() {
     let (_, rows, _) = run(&line(0), &[(1_500_000, 200), (-3_000_000, 200)]);
-    let row = |stress, plastic| Row { yielded: true, tangent: 2_000, stress, plastic };
-    assert_eq!(rows, [row(201_000_000_000, 99_000_000_000), row(-202_980_000_000, -97_020_000_000)]);
+    let row = |branch, stress, plastic| Row { yielded: true, branch, tangent: 2_000, stress, plastic };
+    assert_eq!(rows, [row(1, 201_000_000_000, 99_000_000_000), row(2, -202_980_000_000, -97_020_000_000)]);
 }
 
 #[test]

@@ -3,7 +3,7 @@
 
 use checks::fraction::Fraction;
 use checks::random::Random;
-use checks::rules::{conditions, rounded, solution, Flow, Law, Numbers, Sheet, Side};
+use checks::rules::{branch, conditions, rounded, solution, Flow, Law, Numbers, Sheet, Side};
 
 /// Tangents that fall, on short segments, so that a few fractions cover the plane.
 fn side(random: &mut Random, modulus: i64, segments: usize) -> Side {
@@ -56,6 +56,8 @@ fn the_solution_meets_the_conditions() {
         let (new, flow) = solution(&sheet, &old, &trial).unwrap();
         assert!(conditions(&sheet, &old, &trial, &new), "{sheet:?}\n{old:?}\n{trial}\n{new:?}");
         assert_eq!(flow == Flow::None, new.stress == trial);
+        // What flowed is the way that plastic strain went.
+        assert_eq!(flow as i64, branch(&trial, &new), "{sheet:?}\n{old:?}\n{trial}\n{new:?}");
         let stored = rounded(&sheet, &old, (&new, flow));
         assert!(flow != Flow::None || stored == new);
     }

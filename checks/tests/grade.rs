@@ -292,7 +292,7 @@ fn every_bit_of_the_table() {
             let (row, at) = (bit / (8 * ROW_BYTES) + 1, bit % (8 * ROW_BYTES));
             let mut turned = call.clone();
             turned.rows[bit / 8] ^= 0x80 >> (bit % 8);
-            // yielded 1, zero 3, tangent 20, then the stress
+            // yielded 1, branch 3, tangent 20, then the stress
             let is_stress = (24..72).contains(&at);
             let turned = Call { tolerance: if is_stress { 1 << 20 } else { 0 }, ..turned };
             names(&turned, if is_stress && 71 - at > 20 { row } else { 0 });
@@ -313,6 +313,53 @@ fn anything_beside_the_stress() {
             names(&off(&filled, row, 1), row);
         }
     }
+}
+
+/// Each yielded bit with each of the eight numbers that a branch's three bits hold, in every row at once and in one of
+/// them alone: no difference either.
+#[test]
+fn every_yielded_bit_and_branch() {
+    let mut random = Random::new(806);
+    for call in heats() {
+        for first in 0..16 {
+            let (yielded, branch) = (first >> 3, first & 7);
+            let row = random.range(1, PAIRS as i64) as usize;
+            for at in [0..PAIRS, row - 1..row] {
+                let mut other = call.clone();
+                for at in at {
+                    let values =
+                        [yielded, branch, random.range(0, 0xf_ffff), stress(&call.rows, at), random.draw() as i64];
+                    other.rows[ROW_BYTES * at..][..ROW_BYTES].copy_from_slice(&layout::write(&layout::ROW, values));
+                }
+                names(&other, 0);
+                names(&off(&other, row, random.pick(&[-1, 1])), row);
+            }
+        }
+    }
+}
+
+/// A verdict, or a refusal, is the same whatever stands beside the stresses: tables that pass and damaged calls, each
+/// beside itself with other bits there.
+#[test]
+fn the_stress_alone() {
+    let mut random = Random::new(807);
+    let (mut tally, mut named, mut branches) = (Tally::default(), 0, [0; 8]);
+    for i in 0..20_000 {
+        let mut call = table::valid(&mut random);
+        if i % 4 == 0 {
+            table::damage(&mut random, &mut call);
+        }
+        let mut other = Call { rows: random.bytes(call.rows.len()), ..call.clone() };
+        for at in 0..call.rows.len() / ROW_BYTES {
+            set_stress(&mut other, at, stress(&call.rows, at));
+            branches[Row::read(&other.rows[ROW_BYTES * at..]).branch as usize] += 1;
+        }
+        let outcome = tally.compare(&call);
+        assert_eq!(tally.compare(&other), outcome, "{call}{other}");
+        named += (outcome.row > 0) as usize;
+    }
+    tally.assert_seen(&[0, 8, 9, 10, 16, 17], 100);
+    assert!(named > 5_000 && branches.iter().all(|&count| count > 5_000), "{named} {branches:?}");
 }
 
 /// Each version's own rows pass its own grading with tolerance 0; with a grain more or less in one of them that row is

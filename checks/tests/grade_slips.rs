@@ -50,7 +50,7 @@ fn refused_late(random: &mut Random) -> Call {
 
 // ---- the verdict ----
 
-/// A row as the table has it, and ours: yielded, zero, tangent, stress and plastic.
+/// A row as the table has it, and ours: yielded, branch, tangent, stress and plastic.
 type Fields = [i64; 5];
 type Both = (Fields, Fields);
 
@@ -152,8 +152,26 @@ fn compares_the_yielded_bit(call: &Call) -> Outcome {
     with_field_too(call, 0)
 }
 
-fn wants_the_zero_bits(call: &Call) -> Outcome {
+fn compares_the_branch(call: &Call) -> Outcome {
     with_field_too(call, 1)
+}
+
+/// A table that was made before rows had a branch.
+fn wants_the_zero_bits(call: &Call) -> Outcome {
+    first_where(call, |theirs, ours, d| (theirs[3] - ours[3]).abs() > d || theirs[1] != 0)
+}
+
+fn wants_a_branch(call: &Call) -> Outcome {
+    first_where(call, |theirs, ours, d| (theirs[3] - ours[3]).abs() > d || theirs[1] > 2)
+}
+
+fn wants_a_branch_that_goes_with_yielded(call: &Call) -> Outcome {
+    first_where(call, |theirs, ours, d| (theirs[3] - ours[3]).abs() > d || (theirs[0] == 1) != (theirs[1] != 0))
+}
+
+/// A row of another branch isn't held against ours.
+fn compares_where_the_branches_agree(call: &Call) -> Outcome {
+    first_where(call, |theirs, ours, d| theirs[1] == ours[1] && (theirs[3] - ours[3]).abs() > d)
 }
 
 fn compares_the_tangent(call: &Call) -> Outcome {
@@ -514,11 +532,15 @@ const ABOUT_THE_READER: [(&str, Version); 20] = [
     ("everything is accepted", accepts_everything),
 ];
 
-const OTHERS: [(&str, Version); 43] = [
+const OTHERS: [(&str, Version); 47] = [
     ("a magnitude of 48 bits", wraps_the_magnitude),
     ("a stress beyond ours", refuses_a_stress_beyond_ours),
     ("the yielded bit", compares_the_yielded_bit),
+    ("the branch", compares_the_branch),
     ("the zero bits", wants_the_zero_bits),
+    ("a branch", wants_a_branch),
+    ("a branch that goes with yielded", wants_a_branch_that_goes_with_yielded),
+    ("only where the branches agree", compares_where_the_branches_agree),
     ("the tangent", compares_the_tangent),
     ("the plastic strain", compares_the_plastic_strain),
     ("the differences together", sums_the_differences),

@@ -39,10 +39,10 @@ fn each_number_has_a_log() {
 }
 
 #[test]
-fn the_third_row_is_printed_as_document_01_has_it() {
-    let text = "pair stress plastic tangent yielded\n\
-                1 201000000000 99000000000 2000 1\n\
-                2 -202980000000 -97020000000 2000 1\n\
+fn the_third_row_is_printed_as_documents_01_and_02_have_it() {
+    let text = "pair stress plastic tangent yielded branch\n\
+                1 201000000000 99000000000 2000 1 1\n\
+                2 -202980000000 -97020000000 2000 1 2\n\
                 end 2\n";
     assert_eq!(stored("third_row.txt"), text.as_bytes());
 }

@@ -185,7 +185,7 @@ fn step(slip: Slip, sheet: &Sheet, state: &State, pair: &Pair) -> Result<(State,
     // An unrounded coefficient may leave a part of a grain.
     let cut = |value: &Fraction| value.floor().whole().unwrap();
     let stress = cut(&stored.stress);
-    let row = Row { yielded, tangent, stress, plastic: cut(&(&load - &stored.stress)) };
+    let row = Row { yielded, branch: flow as i64, tangent, stress, plastic: cut(&(&load - &stored.stress)) };
     let (first, second) = (cut(&stored.first), cut(&stored.second));
     let (temperature, n, k) = (pair.temperature, state.n + 1, state.k + yielded as i64);
     Ok((State { law: state.law, yielded, strain, temperature, stress, first, second, n, k }, row))
@@ -249,10 +249,9 @@ fn flowed(slip: Slip, sheet: &Sheet, old: &Numbers, trial: &Fraction, change: i6
         }
         return elastic;
     }
+    let flow = if trial.is_negative() { Flow::Compression } else { Flow::Tension };
     match pull(&sheet.tension, &old.first, &trial.sign()) {
-        Some((stress, first, tangent)) => {
-            (Numbers { stress, first, second: old.second.clone() }, Flow::Tension, tangent)
-        }
+        Some((stress, first, tangent)) => (Numbers { stress, first, second: old.second.clone() }, flow, tangent),
         None => elastic,
     }
 }

@@ -3,15 +3,19 @@ use Prim.Native.Nat.{ℕ}
 use mathlib.Core.Path.{_≡_}
 use mathlib.Core.Bool.{true, false}
 use mathlib.Core.List.{List, [], _∷_}
+use mathlib.Core.Logic.{_↔_}
 use lib.ListN.{length}
-use Rattle.fractions.specs.Fraction.{whole, Within}
+use Rattle.fractions.specs.Fraction.{Frac, whole, Within}
+use Rattle.branch.specs.declared.Branch.the-variants.{Tension, Compression}
+use Rattle.branch.specs.Branches.{yieldedBy}
 use Rattle.units.specs.Kinds.{grain}
 use Rattle.pair.specs.declared.Pair.{Pair}
 use Rattle.row.specs.declared.Row.{Row}
 use Rattle.sheet.specs.declared.Sheet.{Sheet}
 use Rattle.sheet.specs.Sound.{SheetSound}
-use Rattle.response.specs.Candidates.{tensionSide, compressionSide, Passes}
+use Rattle.response.specs.Candidates.{tensionSide, compressionSide, PassesTension, PassesCompression, Passes}
 use Rattle.rod.specs.declared.Rod.{Rod}
+use Rattle.law.specs.declared.Law.{Law}
 use Rattle.law.specs.Laws.{firstIsAbscissa, hasSecond}
 use Rattle.rod.specs.Steps.{trialOf, plasticAt}
 use Rattle.carry.specs.Walk.{yieldedRows}
@@ -25,9 +29,17 @@ LastRowShows h (row ∷ []) r = (row .yielded ≡ r .yielded) × (row .stress �
 LastRowShows h (row ∷ (next ∷ rows)) r = LastRowShows h (next ∷ rows) r
 
 module _ (h : Sheet) (sound : SheetSound h) where
-  -- SPEC 6.6: the trial stress of a pair, from a stored state, passes a limit of the sheet's law.
-  abbrev pub PassesLimit : Rod → Pair → Type 0
-  PassesLimit r p = Passes h sound (h .law) (whole (trialOf h r p)) (whole (r .first .0)) (whole (r .second .0))
+  -- SPEC 6.6: the trial stress of a pair, from a stored state, passes a limit of the sheet's law: this one, or either.
+  abbrev pub FromStored : (Law → (trial first second : Frac) → Type 0) → Rod → Pair → Type 0
+  FromStored Passing r p = Passing (h .law) (whole (trialOf h r p)) (whole (r .first .0)) (whole (r .second .0))
+
+  -- SPEC 11.11: what the row of a pair tells of it, from the state stored before: it yielded where the trial stress passes a limit, the
+  -- branch says which one, and it is elastic exactly where the row isn't marked as yielded.
+  pub record Marked (r : Rod) (p : Pair) (row : Row) : Type 0 where
+    pub yielded : (row .yielded ≡ true) ↔ FromStored (Passes h sound) r p
+    pub tension : (row .branch ≡ Tension) ↔ FromStored (PassesTension h sound) r p
+    pub compression : (row .branch ≡ Compression) ↔ FromStored (PassesCompression h sound) r p
+    pub flowed : row .yielded ≡ yieldedBy (row .branch)
 
   -- SPEC 11.8: each of these lies within k grains of the bar's; a line is asked where the law has its quantity. Of an abscissa it is the
   -- yield limit that is compared, without rounding on either side.

@@ -12,6 +12,9 @@ use lib.Signed.{leZ}
 use Rattle.refusals.specs.Table.{passes, firstOf}
 use Rattle.law.specs.declared.Law.{Law}
 use Rattle.law.specs.declared.Law.the-variants.{IsotropicLine, IsotropicCurve, Kinematic, Asymmetric}
+use Rattle.branch.specs.declared.Branch.{Branch}
+use Rattle.branch.specs.declared.Branch.the-variants.{Elastic, Tension, Compression}
+use Rattle.branch.specs.Branches.{branchNumber, yieldedBy}
 use Rattle.ranges.specs.Ranges.{grains}
 use Rattle.units.specs.Kinds.{nano, tenths, lengthOf, magnitude, modulus, expansion}
 use Rattle.curve.specs.declared.Segment.{Segment}
@@ -61,20 +64,20 @@ pair change temperature = pairBytes (record { change = nano change; temperature 
 abbrev pub pull : ℤ → List ℕ
 pull change = pair change reference
 
--- SPEC 13.1: what a pair must give: its stress, and E times plastic strain, whether it yielded and its tangent where the table fixes them.
+-- SPEC 13.1: what a pair must give: its stress and its branch, and E times plastic strain and the tangent where the table fixes them.
 pub record Expected : Type 0 where
   pub stress : ℤ
+  pub branch : Branch
   pub plastic : Option ℤ
-  pub yielded : Option Bool
   pub tangent : Option ℕ
 
--- The stress alone,
-abbrev pub gives : ℤ → Expected
-gives stress = record { stress = stress; plastic = none; yielded = none; tangent = none }
+-- Stress and branch alone,
+abbrev pub gives : (stress : ℤ) → Branch → Expected
+gives stress branch = record { stress = stress; branch = branch; plastic = none; tangent = none }
 
 -- and with E times plastic strain: for the third row the papers print it, and a rod that is only heated has none.
-abbrev pub givesBoth : (stress plastic : ℤ) → Expected
-givesBoth stress plastic = record { stress = stress; plastic = some plastic; yielded = none; tangent = none }
+abbrev pub givesBoth : (stress plastic : ℤ) → Branch → Expected
+givesBoth stress plastic branch = record { stress = stress; branch = branch; plastic = some plastic; tangent = none }
 
 -- SPEC 13.1: a row of the board: a sheet, the pairs from an unused rod, and what each gives.
 pub record Loop : Type 0 where
@@ -95,24 +98,22 @@ softPull = pull (pos 333334)
 -- SPEC 13.1: the board, which is the papers' term, row by row.
 unfoldable pub board : List Loop
 board =
-    loop (steel IsotropicLine) (pull (pos 1000000) ∷ [])
-    (record { stress = pos 200000000000; plastic = none; yielded = some false; tangent = none } ∷ [])
-    ∷ loop (steel IsotropicLine) (pull (pos 1000001) ∷ [])
-    (record { stress = pos 200000002000; plastic = none; yielded = some true; tangent = none } ∷ [])
+    loop (steel IsotropicLine) (pull (pos 1000000) ∷ []) (gives (pos 200000000000) Elastic ∷ [])
+    ∷ loop (steel IsotropicLine) (pull (pos 1000001) ∷ []) (gives (pos 200000002000) Tension ∷ [])
     ∷ loop (steel IsotropicLine) (pull (pos 1500000) ∷ pull (negℤ (pos 3000000)) ∷ [])
-    (givesBoth (pos 201000000000) (pos 99000000000) ∷ givesBoth (negℤ (pos 202980000000)) (negℤ (pos 97020000000)) ∷ [])
+    (givesBoth (pos 201000000000) (pos 99000000000) Tension ∷ givesBoth (negℤ (pos 202980000000)) (negℤ (pos 97020000000)) Compression ∷ [])
     ∷ loop (steel Kinematic) (pull (pos 1500000) ∷ pull (negℤ (pos 3000000)) ∷ [])
-    (gives (pos 201000000000) ∷ gives (negℤ (pos 201000000000)) ∷ [])
+    (gives (pos 201000000000) Tension ∷ gives (negℤ (pos 201000000000)) Compression ∷ [])
     ∷ loop (sheet Asymmetric 200000 (side 200000 (segment 0 2000 ∷ [])) (side 250000 (segment 0 2000 ∷ [])))
     (pull (pos 1500000) ∷ pull (negℤ (pos 3000000)) ∷ [])
-    (gives (pos 201000000000) ∷ gives (negℤ (pos 251490000000)) ∷ [])
+    (gives (pos 201000000000) Tension ∷ gives (negℤ (pos 251490000000)) Compression ∷ [])
     ∷ loop (steel IsotropicLine) (pair (pos 0) (pos 300) ∷ [])
-    (givesBoth (negℤ (pos 24000000000)) (pos 0) ∷ [])
+    (givesBoth (negℤ (pos 24000000000)) (pos 0) Elastic ∷ [])
     ∷ loop (sheet IsotropicCurve 200000 (side 200000 (segment 500000 20000 ∷ segment 0 2000 ∷ [])) (side 0 [])) (pull (pos 1500000) ∷ [])
-    (record { stress = pos 210000000000; plastic = none; yielded = none; tangent = some 2000 } ∷ [])
+    (record { stress = pos 210000000000; branch = Tension; plastic = none; tangent = some 2000 } ∷ [])
     ∷ loop (sheet IsotropicCurve 200000 (side 200000 (segment 500000 20000 ∷ segment 0 2000 ∷ [])) (side 0 [])) (pull (pos 2000000) ∷ [])
-    (gives (pos 211000000000) ∷ [])
-    ∷ loop softSteel (softPull ∷ []) (gives (pos 1000000) ∷ [])
+    (gives (pos 211000000000) Tension ∷ [])
+    ∷ loop softSteel (softPull ∷ []) (gives (pos 1000000) Tension ∷ [])
     ∷ []
 
 -- SPEC 13.2: whether a row is the expected one; what isn't fixed isn't looked at.
@@ -124,9 +125,8 @@ sameBool true b = b
 sameBool false true = false
 sameBool false false = true
 
-abbrev pub yieldedAs : Option Bool → Bool → Bool
-yieldedAs none b = true
-yieldedAs (some a) b = sameBool a b
+abbrev pub branchAs : Branch → Branch → Bool
+branchAs a b = eqb (branchNumber a) (branchNumber b)
 
 abbrev pub plasticAs : Option ℤ → ℤ → Bool
 plasticAs none z = true
@@ -139,8 +139,9 @@ tangentAs (some u) t = eqb u t
 abbrev pub rowAs : Expected → Row → Bool
 rowAs x row =
     sameℤ (x .stress) (row .stress .0)
+    && branchAs (x .branch) (row .branch)
+    && sameBool (yieldedBy (x .branch)) (row .yielded)
     && plasticAs (x .plastic) (row .plastic .0)
-    && yieldedAs (x .yielded) (row .yielded)
     && tangentAs (x .tangent) (row .tangent .0)
 
 abbrev pub rowsAs : List Expected → List Row → Bool

@@ -3,14 +3,11 @@
 -- that passes.
 use Prim.Native.Nat.{ℕ, _+_, _<_}
 use mathlib.Core.Path.{_≡_, refl, sym, ap, subst, _∙_}
-use mathlib.Core.Bool.{Bool, true, false, cond}
 use mathlib.Core.List.{List, [], _∷_, _++_, map}
 use native.Mathlib.Omega.{arith}
 use lib.IntN.{ℤ, _-ℤ_}
 use lib.ListN.{length, take}
 use Rattle.refusals.specs.Table.{NoneApplies}
-use Rattle.law.specs.declared.Law.{Law}
-use Rattle.law.specs.declared.Law.the-variants.{IsotropicLine, IsotropicCurve, Kinematic, Asymmetric}
 use Rattle.pair.specs.declared.Pair.{Pair}
 use Rattle.pair.specs.Pairs.{pairOf, pairLength, pairRefusals}
 use Rattle.row.specs.declared.Row.{Row}
@@ -18,8 +15,6 @@ use Rattle.row.specs.Rows.{rowOf, rowLength}
 use Rattle.sheet.specs.declared.Sheet.{Sheet}
 use Rattle.sheet.specs.Sheets.{sheetOf}
 use Rattle.sheet.specs.Sound.{SheetSound}
-use Rattle.units.specs.Signs.{isNeg}
-use Rattle.response.specs.Response.{Outcome, branchOf, isotropicMoved, kinematicMoved, asymmetricOutcome, outcomeUnder}
 use Rattle.response.specs.Solved.{Solved}
 use Rattle.rod.specs.declared.Rod.{Rod}
 use Rattle.rod.specs.declared.step.Advance.{Advance}
@@ -44,23 +39,6 @@ use Rattle.demands.proofs.Singles.{single-accepted, single-pair, single
 
 -- ---- One pair
 
-branch-still : (y : Bool) (s : ℤ) → y ≡ false → branchOf y s ≡ 0
-branch-still y s e = rw e
-
-picked-still : (t : Bool) (a b : Outcome) → (a .yielded ≡ false → a .branch ≡ 0) → (b .yielded ≡ false → b .branch ≡ 0)
-    → cond t a b .yielded ≡ false → cond t a b .branch ≡ 0
-picked-still true a b one other e = one e
-picked-still false a b one other e = other e
-
--- Where nothing yields, no branch is taken.
-no-branch : (law : Law) (h : Sheet) (first second trial : ℤ) → outcomeUnder law h first second trial .yielded ≡ false
-    → outcomeUnder law h first second trial .branch ≡ 0
-unfolding outcomeUnder isotropicMoved kinematicMoved asymmetricOutcome
-no-branch IsotropicLine h first second trial e = branch-still _ trial e
-no-branch IsotropicCurve h first second trial e = branch-still _ trial e
-no-branch Kinematic h first second trial e = branch-still _ (trial -ℤ first) e
-no-branch Asymmetric h first second trial e = picked-still (isNeg trial) _ _ (branch-still _ trial) (branch-still _ trial) e
-
 module _ {h : Sheet} (sound : SheetSound h) where
   outcome-solved : (r : Rod) (p : Pair) → Accepted h r
       → Solved h sound (h .law) (trialOf h r p) (r .first .0) (r .second .0) (outcomeAfter h r p)
@@ -72,7 +50,6 @@ module _ {h : Sheet} (sound : SheetSound h) where
       record {
         outcome = outcomeAfter h r p;
         solved = outcome-solved r p a;
-        still = no-branch (h .law) h (r .first .0) (r .second .0) (trialOf h r p);
         next-is = refl;
         row-is = refl;
         plastic = plastic-change h r p (outcomeAfter h r p .stress);

@@ -29,7 +29,7 @@ use Rattle.state.proofs.Passing.{unused-state-passes}
 use Rattle.state.proofs.RoundTrip.{rod-back}
 use Rattle.carry.specs.Walk.{lastRod, rowsOf, yieldedRows, History}
 use Rattle.carry.proofs.Histories.{last-append, rows-append, history-append}
-use Rattle.accuracy.specs.Within.{PassesLimit, AtStop}
+use Rattle.accuracy.specs.Within.{Marked, AtStop}
 use Rattle.accuracy.proofs.Bound.{history-within}
 use Rattle.judge.specs.Standing.{standingRefusals}
 use Rattle.tie_rod.specs.Calls.{Call, pieces, unusedAnswer}
@@ -114,9 +114,12 @@ module _ (sheet : List ℕ) (passed : firstOf (sheetRefusals sheet) (sheetOf she
           let y = stop-reached (acceptedIn sheet (s .state) c) (omega arith) in
           record { pairs = y .pairs; advances = y .advances; history = y .history; pairs-are = y .pairs-are; rows-are = y .rows-are; state-is = sym ends ∙ y .state-is }
 
-  -- A row is marked exactly where its pair's trial stress passes a limit.
-  marked-by : {r next : Rod} {p : Pair} {row : Row} → PairSolved h sound r p next row → (row .yielded ≡ true) ↔ PassesLimit h sound r p
-  marked-by {r} {next} {p} solves = subst (λ (row : Row). (row .yielded ≡ true) ↔ PassesLimit h sound r p) (sym (solves .row-is)) (solves .solved .passes)
+  -- A row tells the limit that its pair's trial stress passes.
+  marked-by : {r next : Rod} {p : Pair} {row : Row} → PairSolved h sound r p next row → Marked h sound r p row
+  marked-by {r} {next} {p} solves =
+      let o = solves .solved in
+      subst (Marked h sound r p) (sym (solves .row-is))
+      (record { yielded = o .passes; tension = o .tension; compression = o .compression; flowed = o .marked })
 
   at-call : {s : Situation} (x : Reached s) (c : Call) → AtCall sheet sound s c
   at-call {s} x c =
@@ -204,7 +207,7 @@ module _ (sheet : List ℕ) (passed : firstOf (sheetRefusals sheet) (sheetOf she
           accepted = accepted x k;
           as-single = as-single;
           kept-back = keeping-answered sheet (k .start) (k .trial) (s .state) (k .next) .kept-back;
-          marked = λ e. subst (λ (l : List ℕ). (rowIn (triedIn sheet l (k .trial)) .yielded ≡ true) ↔ PassesLimit h sound (stateOf (s .state)) (pairOf (k .trial .pair)))
+          marked = λ e. subst (λ (l : List ℕ). Marked h sound (stateOf (s .state)) (pairOf (k .trial .pair)) (rowIn (triedIn sheet l (k .trial))))
               (sym (from x k e)) (at-trial x (k .trial) .marked (here x k e));
         }
 

@@ -4,7 +4,6 @@
 -- 3, over lists, is AtEveryStop in Lists and WithinFrom in Sections.
 use Prim.Native.Nat.{ℕ, _+_, _*_, _≤_, _<_}
 use mathlib.Core.Path.{_≡_}
-use mathlib.Core.Bool.{false}
 use mathlib.Core.List.{List, [], _∷_, _++_}
 use mathlib.Core.Logic.{_⊎_, _↔_}
 use lib.ListN.{length, getD, drop}
@@ -146,11 +145,9 @@ pub record Answered (sheet state : List ℕ) : Type 0 where
 pub record PairSolved (h : Sheet) (sound : SheetSound h) (r : Rod) (p : Pair) (next : Rod) (row : Row) : Type 0 where
   -- The numbers that it left
   pub outcome : Outcome
-  -- are the roundings (SPEC 7.2 to 7.5) of the one solution that the law's conditions have from the rod's stored numbers, and the tangent
-  -- is that of SPEC 7.8.
+  -- are the roundings (SPEC 7.2 to 7.5) of the one solution that the law's conditions have from the rod's stored numbers, with the branch
+  -- that plastic strain goes by in it (SPEC 7.7), and the tangent is that of SPEC 7.8.
   pub solved : Solved h sound (h .law) (trialOf h r p) (r .first .0) (r .second .0) outcome
-  -- Where it didn't yield, no branch was taken (SPEC 7.7), which is where `solved` says that the tangent is E.
-  pub still : outcome .yielded ≡ false → outcome .branch ≡ 0
   -- They stand in the new state, with strain, temperature and counts as the pair sets them (SPEC 7.9),
   pub next-is : next ≡ rodAfter r p outcome
   -- and in the row, with E times plastic strain (SPEC 7.10).

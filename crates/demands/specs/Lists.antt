@@ -18,7 +18,7 @@ use Rattle.sheet.specs.Sheets.{sheetOf}
 use Rattle.sheet.specs.Sound.{SheetSound}
 use Rattle.state.specs.States.{stateOf, stateLength}
 use Rattle.carry.specs.Walk.{yieldedRows}
-use Rattle.accuracy.specs.Within.{PassesLimit, AtStop}
+use Rattle.accuracy.specs.Within.{Marked, AtStop}
 use Rattle.judge.specs.Standing.{standingRefusals}
 use Rattle.tie_rod.specs.Calls.{Call, call, run, pieces, pieceAt, countIn, Left, callLeaves}
 use Rattle.trial.specs.Trials.{Trial, asSingle, trialLeaves, Kept, keepLeaves}
@@ -142,10 +142,10 @@ module _ (sheet : List ℕ) where
       pub stops : (j : ℕ) → j ≤ acceptedIn (s .state) c → Holds (stopIn s c j)
       pub starts : stateIn (s .state) c 0 ≡ s .state
       pub ends : stateIn (s .state) c (acceptedIn (s .state) c) ≡ stateAfter (s .state) c
-      -- SPEC 11.11: a row says that the rod yielded exactly where the trial stress, from the state stored before its pair, passes a limit
+      -- SPEC 11.11: the row of a pair says whether the trial stress, from the state stored before it, passes a limit, and which
       pub marked : (j : ℕ) → j < acceptedIn (s .state) c
-          → (rowOf (pieceAt rowLength j (callLeaves sheet (s .state) c .rows)) .yielded ≡ true)
-          ↔ PassesLimit (sheetOf sheet) sound (stateOf (stateIn (s .state) c j)) (pairOf (pieceAt pairLength j (c .pairs)))
+          → Marked (sheetOf sheet) sound (stateOf (stateIn (s .state) c j)) (pairOf (pieceAt pairLength j (c .pairs)))
+          (rowOf (pieceAt rowLength j (callLeaves sheet (s .state) c .rows)))
 
     -- SPEC 11.15, of a trial: nothing has moved by it. Where it is accepted, its row and its next state lie within k and its own yielded
     -- bit of the bar that is fed its pair too, and the row is marked as any other.
@@ -154,7 +154,7 @@ module _ (sheet : List ℕ) where
       pub tried : triedIn (s .state) t .reply .number ≡ 0 → Holds (trialStop s t)
       pub counted : yieldedRows (trialStop s t .rows) ≡ yieldedRows (s .rows) + flag (rowIn (triedIn (s .state) t) .yielded)
       pub marked : triedIn (s .state) t .reply .number ≡ 0
-          → (rowIn (triedIn (s .state) t) .yielded ≡ true) ↔ PassesLimit (sheetOf sheet) sound (stateOf (s .state)) (pairOf (t .pair))
+          → Marked (sheetOf sheet) sound (stateOf (s .state)) (pairOf (t .pair)) (rowIn (triedIn (s .state) t))
 
     -- SPEC 11.16, of a keeping: all holds before it and behind it. Where it has number 0, its trial was given the list's state and was
     -- accepted, and the list is where the single pair of that trial leads; else its buffer is as it was.
@@ -166,7 +166,7 @@ module _ (sheet : List ℕ) where
       pub as-single : keptIn (s .state) k .number ≡ 0 → after s (keeps k) ≡ afterCall s (asSingle (k .trial))
       pub kept-back : (keptIn (s .state) k .number ≡ 0 → ⊥) → keptIn (s .state) k .next ≡ k .next
       pub marked : keptIn (s .state) k .number ≡ 0
-          → (rowIn (triedIn (k .start) (k .trial)) .yielded ≡ true) ↔ PassesLimit (sheetOf sheet) sound (stateOf (s .state)) (pairOf (k .trial .pair))
+          → Marked (sheetOf sheet) sound (stateOf (s .state)) (pairOf (k .trial .pair)) (rowIn (triedIn (k .start) (k .trial)))
 
     -- SPEC 11.8, 11.15, 11.16, of one operation,
     abbrev pub AtOperation : Situation → Operation → Type 0

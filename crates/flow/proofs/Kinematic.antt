@@ -100,13 +100,13 @@ stress-rest t k {E} h e yield trial X =
 module _ {E tangent : ℕ} {below : tangent < E} {yield trial X stress X′ growth : Frac}
     (s : Kinematic E tangent below yield trial X stress X′ growth) where
   -- The growth about the centre: E / (E - tangent) times that of p.
-  abbrev wider : Frac
+  abbrev pub wider : Frac
   wider = timesF growth E (E - tangent) (sub-pos-iff-lt .1 below)
 
-  wider-not-negative : whole (pos 0) ≤F wider
+  pub wider-not-negative : whole (pos 0) ≤F wider
   wider-not-negative = times-not-negative growth E (E - tangent) (sub-pos-iff-lt .1 below) (s .keeps)
 
-  signs-agree : ((trial -F X) -F (stress -F X′)) ≈F signedF (stress -F X′) wider
+  pub signs-agree : ((trial -F X) -F (stress -F X′)) ≈F signedF (stress -F X′) wider
   signs-agree =
       let k = sub-pos-iff-lt .1 below in
       ≈F-trans (relative-change tangent k (omega arith) trial X stress X′ (s .centre))

@@ -1,4 +1,5 @@
--- The board's third row (SPEC 13.1): the bytes of its log have the text that the papers print for it, computed over the definitions.
+-- The board's third row (SPEC 13.1): the bytes of its log have the text that the papers print for it, with the branch behind it, computed
+-- over the definitions.
 use Prim.Native.Nat.{ℕ}
 use mathlib.Core.Path.{_≡_, refl}
 use mathlib.Core.List.{List, [], _∷_, _++_}
@@ -6,6 +7,7 @@ use Rattle.refusals.specs.Table.{firstOf}
 use Rattle.bits.specs.Field.{field, twos, bitsOf}
 use Rattle.bits.specs.Layout.{widths, packed, bytesOf}
 use Rattle.law.specs.Laws.{lawOf}
+use Rattle.branch.specs.Branches.{branchNumbered}
 use Rattle.curve.specs.Curve.{rise, height, limitAt}
 use Rattle.curve.specs.Sides.{segmentsOf, curveOf}
 use Rattle.curve.specs.Tangent.{spans, tangentIn, tangentAt}
@@ -41,6 +43,6 @@ abbrev pub pairs : List ℕ
 pairs = 0 ∷ 22 ∷ 227 ∷ 96 ∷ 0 ∷ 200 ∷ 31 ∷ 210 ∷ 57 ∷ 64 ∷ 0 ∷ 200 ∷ []
 
 pub third-row : textOf (sheet ++ state ++ pairs)
-    ≡ ascii "pair stress plastic tangent yielded\n1 201000000000 99000000000 2000 1\n2 -202980000000 -97020000000 2000 1\nend 2\n"
-unfolding textOf toldOf toldBy logRefusals linesOf linesFrom lineOf lastLine numeral digitsWithin signedNumeral firstOf field twos bitsOf widths packed bytesOf lawOf rise height limitAt segmentsOf curveOf spans tangentIn tangentAt allBelow lengthWrong sheetCountsRight constantsRight yieldsRight headerRight lengthsRight pointsRight tangentsRight temperaturesRise sheetFieldRefusals sheetRefusals listed placed sheetOf thermalOf coefficientIn pairInRange pairRefusals listRefusals rowBytes isotropicStored sideStored isotropicMoved outcomeUnder againstRefusals belongs isotropicBelongs withinLimit stateRefusals trialOf advanceOf strainLeaves leavesRange stepRefusals standingRefusals pairTable pairAnswer walk rowsBytes calls.pieces states.stateFieldRefusals rods.rodInRange
+    ≡ ascii "pair stress plastic tangent yielded branch\n1 201000000000 99000000000 2000 1 1\n2 -202980000000 -97020000000 2000 1 2\nend 2\n"
+unfolding textOf toldOf toldBy logRefusals linesOf linesFrom lineOf lastLine numeral digitsWithin signedNumeral firstOf field twos bitsOf widths packed bytesOf lawOf branchNumbered rise height limitAt segmentsOf curveOf spans tangentIn tangentAt allBelow lengthWrong sheetCountsRight constantsRight yieldsRight headerRight lengthsRight pointsRight tangentsRight temperaturesRise sheetFieldRefusals sheetRefusals listed placed sheetOf thermalOf coefficientIn pairInRange pairRefusals listRefusals rowBytes isotropicStored sideStored isotropicMoved outcomeUnder againstRefusals belongs isotropicBelongs withinLimit stateRefusals trialOf advanceOf strainLeaves leavesRange stepRefusals standingRefusals pairTable pairAnswer walk rowsBytes calls.pieces states.stateFieldRefusals rods.rodInRange
 third-row = refl

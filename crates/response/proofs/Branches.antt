@@ -5,6 +5,7 @@ use mathlib.Core.Bool.{Bool, true, false, true≢false, cond}
 use lib.IntN.{ℤ, pos, negsuc, natAbs, _+ℤ_, _-ℤ_}
 use borrow.Author.Tests.{le-leb, lt-leb, ltb-true, ltb-false}
 use lib.Dec.{ltb}
+use Rattle.branch.specs.declared.Branch.the-variants as branches
 use Rattle.fractions.specs.Fraction.{signed}
 use Rattle.units.specs.declared.Magnitude.{Magnitude}
 use Rattle.units.specs.declared.Modulus.{Modulus}
@@ -36,7 +37,7 @@ not-negative (negsuc n) h = absurd (true≢false h)
 -- A flow in either direction.
 pub flow-meaning : (E : ℕ) (variable trial : ℤ) (negative : Bool) (f : Flowed)
     → movedMeaning E variable trial (flowToward negative f)
-    ≡ record { yielded = true; branch = cond negative 2 1; stress = f .stress .0; variable = f .variable .0; tangent = f .tangent .0 }
+    ≡ record { yielded = true; branch = cond negative branches.Compression branches.Tension; stress = f .stress .0; variable = f .variable .0; tangent = f .tangent .0 }
 unfolding movedMeaning
 flow-meaning E variable trial true f = refl
 flow-meaning E variable trial false f = refl

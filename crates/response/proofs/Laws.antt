@@ -1,34 +1,41 @@
 -- SPEC 6.7, 7.1: for every sheet that passes and every state with no abscissa below its yield, what a pair leaves is the rounding of the
 -- one solution that the conditions have. What is said of the conditions alone is in Candidates; here it is what each law leaves.
 use Prim.Native.Nat.{ℕ, _≤_}
-use mathlib.Core.Path.{_≡_, refl, sym, _∙_}
+use mathlib.Core.Path.{_≡_, refl, sym, ap, _∙_}
 use mathlib.Core.Bool.{true, false, true≢false}
-use mathlib.Core.Logic.{_↔_, Iff·trans}
+use mathlib.Core.Logic.{_↔_, Iff·symm, Iff·trans}
 use native.Mathlib.Omega.{arith}
 use lib.IntN.{ℤ, pos, negsuc, _-ℤ_}
-use Rattle.fractions.specs.Fraction.{_≤F_, whole}
+use Rattle.fractions.specs.Fraction.{Frac, _≤F_, _<F_, whole, _-F_}
 use Rattle.fractions.proofs.Common.{is-whole-one, is-le}
 use Rattle.fractions.proofs.Comparison.{≈F-refl}
 use Rattle.fractions.proofs.Arithmetic.{whole-sub, difference-positive}
+use Rattle.branch.specs.declared.Branch.{Branch}
+use Rattle.branch.specs.declared.Branch.the-variants.{Elastic, Tension, Compression}
+use Rattle.branch.specs.Branches.{yieldedBy}
 use Rattle.law.specs.declared.Law.{Law}
 use Rattle.law.specs.declared.Law.the-variants.{IsotropicLine, IsotropicCurve, Kinematic, Asymmetric}
+use Rattle.law.specs.Laws.{numberOf}
 use Rattle.curve.specs.Curve.{Curve, limitAt}
 use Rattle.curve.specs.Sides.{curveOf}
 use Rattle.sheet.specs.declared.Sheet.{Sheet}
 use Rattle.sheet.specs.Sound.{SheetSound, tangentOf}
+use Rattle.flow.specs.Side.{accumulated}
 use Rattle.flow.specs.Stored.{AsymmetricStored, isotropicStored, kinematicStored, asymmetricStored}
 use Rattle.flow.proofs.Curves.{curve-rounded}
 use Rattle.flow.proofs.OneSide.{limit-positive}
+use Rattle.flow.proofs.Asymmetric.{asymmetric-grows}
 use Rattle.flow.proofs.IsotropicRounding.{isotropic-rounded, isotropic-rounded-unique}
 use Rattle.flow.proofs.KinematicRounding.{kinematic-rounded, kinematic-rounded-unique}
 use Rattle.flow.proofs.AsymmetricRounding.{asymmetric-rounded, asymmetric-rounded-unique}
 use Rattle.response.specs.Response.{Outcome, branchOf, isotropicMoved, kinematicMoved, inFirst, asymmetricOutcome, outcomeUnder, outcomeOf}
-use Rattle.response.specs.Candidates.{Candidate, Grows, Passes, PassesTension, PassesCompression}
+use Rattle.response.specs.Candidates.{Candidate, Grows, plasticChange, Toward, tensionSide, compressionSide, MeetsUnder, Passes, PassesTension, PassesCompression}
 use Rattle.response.specs.Solved.{RoundsUnder, SegmentTangent, TangentTension, TangentCompression, Meets, Solved, PastYield, AbscissasPast}
 use Rattle.response.proofs.Candidates.{PastUnder, tension-hardens, compression-hardens, radius-positive, solutionUnder, solution-meets, meets-same, grows-passes, sides-grow}
 use Rattle.response.proofs.Places.{isotropic-branch}
-use Rattle.response.proofs.MovedTangent.{branch-still, branch-flows, tangent-still, tangent-of-segment}
+use Rattle.response.proofs.MovedTangent.{branch-marks, branch-is, tangent-still, tangent-of-segment}
 use Rattle.response.proofs.Passing.{branch-passes}
+use Rattle.response.proofs.Directions.{only-way, by-limits, above-nought, below-nought, ways-under}
 
 -- Law 3's outcome has the numbers of flow's `asymmetricStored`.
 pub record AsStored (o : Outcome) (trial : ℤ) (stored : AsymmetricStored) : Type 0 where
@@ -47,18 +54,18 @@ asymmetric-as-stored E tension compression A B (negsuc m) = record { yielded = r
 
 asymmetric-tangents : (E : ℕ) (tension compression : Curve) (A B : ℕ) (trial : ℤ) → tension .yield ≤ A → compression .yield ≤ B
     → let o = asymmetricOutcome E tension compression (pos A) (pos B) trial in
-    (o .branch ≡ 0 → o .tangent ≡ E) × (o .branch ≡ 1 → SegmentTangent E tension (o .first) (o .tangent))
-    × (o .branch ≡ 2 → SegmentTangent E compression (o .second) (o .tangent))
+    (o .branch ≡ Elastic → o .tangent ≡ E) × (o .branch ≡ Tension → SegmentTangent E tension (o .first) (o .tangent))
+    × (o .branch ≡ Compression → SegmentTangent E compression (o .second) (o .tangent))
 unfolding asymmetricOutcome
 asymmetric-tangents E tension compression A B (pos m) h h′ = (
   tangent-still E tension (pos A) (pos m),
-  tangent-of-segment E tension (pos A) (pos m) h 0,
+  tangent-of-segment E tension (pos A) (pos m) h Tension refl,
   λ e. absurd (isotropic-branch E tension (pos A) (pos m) false refl e),
 )
 asymmetric-tangents E tension compression A B (negsuc m) h h′ = (
   tangent-still E compression (pos B) (negsuc m),
   λ e. absurd (isotropic-branch E compression (pos B) (negsuc m) true refl e),
-  tangent-of-segment E compression (pos B) (negsuc m) h′ 1,
+  tangent-of-segment E compression (pos B) (negsuc m) h′ Compression refl,
 )
 
 past-yield : {yield A : ℕ} → yield ≤ A → whole (pos yield) ≤F whole (pos A)
@@ -73,15 +80,17 @@ module _ (h : Sheet) (sound : SheetSound h) where
   E = h .modulus .0
 
   -- What an outcome has to be under a law: the rounding of each candidate that meets the conditions, yielded where p grows in it; its branch
-  -- follows from whether it yielded; and its tangent.
+  -- follows from whether it yielded, and tells it; and its tangent.
   abbrev Left : Law → (trial first second : ℤ) → Outcome → Type 0
   Left law trial first second o =
       ((x : Candidate) → Meets h sound law trial first second x
       → RoundsUnder h sound law trial first second x o × ((o .yielded ≡ true) ↔ Grows x))
       × ((o .yielded ≡ true) ↔ Passes h sound law (whole trial) (whole first) (whole second)
-      → ((o .branch ≡ 1) ↔ PassesTension h sound law (whole trial) (whole first) (whole second))
-      × ((o .branch ≡ 2) ↔ PassesCompression h sound law (whole trial) (whole first) (whole second)))
-      × (o .branch ≡ 0 → o .tangent ≡ h .modulus .0) × (o .branch ≡ 1 → TangentTension h law o) × (o .branch ≡ 2 → TangentCompression h law o)
+      → ((o .branch ≡ Tension) ↔ PassesTension h sound law (whole trial) (whole first) (whole second))
+      × ((o .branch ≡ Compression) ↔ PassesCompression h sound law (whole trial) (whole first) (whole second)))
+      × (o .yielded ≡ yieldedBy (o .branch))
+      × (o .branch ≡ Elastic → o .tangent ≡ h .modulus .0) × (o .branch ≡ Tension → TangentTension h law o)
+      × (o .branch ≡ Compression → TangentCompression h law o)
 
   -- Laws 0 and 1.
   isotropic-left : (trial : ℤ) (A : ℕ) (second : ℤ) → h .tension .«yield_stress» .0 ≤ A
@@ -95,9 +104,10 @@ module _ (h : Sheet) (sound : SheetSound h) where
             let (rounded, yields) = isotropic-rounded hardens (curve-rounded (sound .modulus-least) curve) A (past-yield past) trial m in
             ((rounded, refl), Iff·trans yields (difference-positive g)),
         branch-passes high high trial (≈F-refl (whole trial)) (isotropicStored (limitAt E curve) trial A .yielded),
+        branch-marks (isotropicStored (limitAt E curve) trial A .yielded) trial,
         tangent-still E curve (pos A) trial,
-        tangent-of-segment E curve (pos A) trial past 0,
-        tangent-of-segment E curve (pos A) trial past 1,
+        tangent-of-segment E curve (pos A) trial past Tension refl,
+        tangent-of-segment E curve (pos A) trial past Compression refl,
       )
 
   -- Law 2.
@@ -111,9 +121,10 @@ module _ (h : Sheet) (sound : SheetSound h) where
             let (rounded, yields) = kinematic-rounded (sound .modulus-least) (omega (arith, sound .tension .yield-least)) trial X m in
             ((rounded, refl), yields),
         branch-passes positive positive (trial -ℤ X) (whole-sub trial X) yielded,
-        λ e. rw (branch-still yielded (trial -ℤ X) e),
-        λ e. rw (branch-flows yielded (trial -ℤ X) 0 e),
-        λ e. rw (branch-flows yielded (trial -ℤ X) 1 e),
+        branch-marks yielded (trial -ℤ X),
+        λ e. rw (branch-is yielded (trial -ℤ X) Elastic e),
+        λ e. rw (branch-is yielded (trial -ℤ X) Tension e),
+        λ e. rw (branch-is yielded (trial -ℤ X) Compression e),
       )
 
   -- Law 3.
@@ -136,6 +147,7 @@ module _ (h : Sheet) (sound : SheetSound h) where
         rw (same .yielded, same .branch)
             (branch-passes (limit-positive hardens p) (limit-positive hardens′ p′) trial (≈F-refl (whole trial))
             (asymmetricStored (limitAt E tension) (limitAt E compression) trial A B .yielded)),
+        rw (same .yielded, same .branch) (branch-marks (asymmetricStored (limitAt E tension) (limitAt E compression) trial A B .yielded) trial),
         still,
         up,
         down,
@@ -172,6 +184,29 @@ module _ (h : Sheet) (sound : SheetSound h) where
   past-under Asymmetric A B p =
       (past-whole (h .tension .«yield_stress» .0) A (p .0), past-whole (h .compression .«yield_stress» .0) B (p .1))
 
+  -- Law 2: a flow goes toward the side of the centre on which the trial lies.
+  centre-side : (law : Law) → law ≡ Kinematic → (trial X second : ℤ) (o : Outcome) → yieldedBy (o .branch) ≡ true
+      → (o .branch ≡ Tension) ↔ PassesTension h sound law (whole trial) (whole X) (whole second)
+      → (o .branch ≡ Compression) ↔ PassesCompression h sound law (whole trial) (whole X) (whole second)
+      → (b : Branch) → (o .branch ≡ b) ↔ Toward b (whole trial -F whole X)
+  centre-side law is trial X second o yielded up down =
+      let d = whole trial -F whole X in
+      let positive = radius-positive h sound in
+      only-way d
+      (by-limits d (o .branch) (rw is at up) (rw is at down) (λ e. e, λ e. e) (above-nought positive)
+      (below-nought positive) (λ still. absurd (still yielded)))
+
+  -- Law 3: a side flows exactly where the trial passes its limit.
+  sides-flow : (law : Law) → law ≡ Asymmetric → h .law ≡ law → (trial first second : Frac) (x : Candidate) → PastUnder h sound law first second
+      → MeetsUnder h sound law trial first second x → let tension = tensionSide h sound in let compression = compressionSide h sound in
+      ((accumulated tension first <F accumulated tension (x .first)) ↔ PassesTension h sound law trial first second)
+      × ((accumulated compression second <F accumulated compression (x .second)) ↔ PassesCompression h sound law trial first second)
+  sides-flow IsotropicLine a is trial A second x past m = absurd (omega (arith, ap numberOf a))
+  sides-flow IsotropicCurve a is trial A second x past m = absurd (omega (arith, ap numberOf a))
+  sides-flow Kinematic a is trial X second x past m = absurd (omega (arith, ap numberOf a))
+  sides-flow Asymmetric a is trial A B x past m =
+      asymmetric-grows (tension-hardens h sound) (compression-hardens h sound is) (past .0) (past .1) (m .0)
+
   solved-under : (law : Law) → h .law ≡ law → (trial first second : ℤ) → AbscissasPast law h first second
       → Solved h sound law trial first second (outcomeUnder law h first second trial)
   solved-under law is trial first second p =
@@ -179,8 +214,9 @@ module _ (h : Sheet) (sound : SheetSound h) where
       let o = outcomeUnder law h first second trial in
       let solution = solutionUnder h sound law (whole trial) (whole first) (whole second) in
       let meets = solution-meets h sound law is (whole trial) (whole first) (whole second) past in
-      let (left, branches, still, tension, compression) = left-under law is trial first second p in
+      let (left, branches, marked, still, tension, compression) = left-under law is trial first second p in
       let passes = Iff·trans (left solution meets .1) (grows-passes h sound law is (whole trial) (whole first) (whole second) solution past meets) in
+      let (up, down) = branches passes in
       record {
         exists = (solution, meets);
         unique = meets-same h sound law is (whole trial) (whole first) (whole second);
@@ -188,8 +224,16 @@ module _ (h : Sheet) (sound : SheetSound h) where
         only = λ x m o′ r. rounds-same law trial first second x o′ o r (left x m .0);
         grows = λ x m. left x m .1;
         passes = passes;
-        tension = branches passes .0;
-        compression = branches passes .1;
+        branch = λ x m.
+            let ways = ways-under h sound law is (whole trial) (whole first) (whole second) x past m in
+            let yields = rw marked at (left x m .1) in
+            only-way (plasticChange (whole trial) x) (by-limits (plasticChange (whole trial) x) (o .branch) up down yields (ways .up) (ways .down) (ways .still));
+        marked = marked;
+        tension = up;
+        compression = down;
+        centre-side = λ kinematic yielded. centre-side law kinematic trial first second o (sym marked ∙ yielded) up down;
+        tension-flowed = λ asymmetric x m. Iff·trans up (Iff·symm (sides-flow law asymmetric is (whole trial) (whole first) (whole second) x past m .0));
+        compression-flowed = λ asymmetric x m. Iff·trans down (Iff·symm (sides-flow law asymmetric is (whole trial) (whole first) (whole second) x past m .1));
         tangent-still = still;
         tangent-tension = tension;
         tangent-compression = compression;

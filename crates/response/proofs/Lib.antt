@@ -4,5 +4,6 @@ pub mod LimitLaws
 pub mod SoundSides
 pub mod Candidates
 pub mod Passing
+pub mod Directions
 pub mod MovedTangent
 pub mod Laws

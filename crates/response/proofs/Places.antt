@@ -8,6 +8,8 @@ use native.Mathlib.Omega.{arith}
 use lib.IntN.{ℤ}
 use denote.Enum.Declared.{tagOf}
 use types.Run.{OneOf}
+use Rattle.branch.specs.declared.Branch.the-variants.{Tension, Compression}
+use Rattle.branch.specs.Branches.{branchNumber}
 use Rattle.law.specs.declared.Law.{Law}
 use Rattle.law.specs.declared.Law.the-variants.{IsotropicLine, IsotropicCurve, Kinematic, Asymmetric}
 use Rattle.law.specs.Laws.{hasSecond}
@@ -19,7 +21,7 @@ use Rattle.curve.specs.Sides.{curveOf}
 use Rattle.sheet.specs.declared.Sheet.{Sheet}
 use Rattle.sheet.specs.Sound.{tangentOf}
 use Rattle.response.specs.declared.Motion.{Motion}
-use Rattle.response.specs.declared.Motion.the-variants.{Still, Tension, Compression}
+use Rattle.response.specs.declared.Motion.the-variants as motions
 use Rattle.response.specs.Response.{branchOf, Moved, isotropicMoved, kinematicMoved, inFirst, inSecond, asymmetricOutcome, outcomeUnder, outcomeOf, movedMeaning, settledBy, responseMeaning, AbscissaRight, VariablesRight}
 use Rattle.response.specs.SideFlows.{sideBy}
 
@@ -41,14 +43,14 @@ first-is-abscissa first second (inl is) v = rw is at v
 first-is-abscissa first second (inr is) v = rw is at v
 
 -- The branch of a flow goes by the trial's sign.
-branch-of-sign : (s : ℤ) (yielded negative : Bool) → isNeg s ≡ negative → branchOf yielded s ≡ cond negative 1 2 → ⊥
-branch-of-sign s false true h e = omega (arith, e)
-branch-of-sign s false false h e = omega (arith, e)
-branch-of-sign s true true h e = omega (arith, rw h at e)
-branch-of-sign s true false h e = omega (arith, rw h at e)
+branch-of-sign : (s : ℤ) (yielded negative : Bool) → isNeg s ≡ negative → branchOf yielded s ≡ cond negative Tension Compression → ⊥
+branch-of-sign s false true h e = omega (arith, ap branchNumber e)
+branch-of-sign s false false h e = omega (arith, ap branchNumber e)
+branch-of-sign s true true h e = omega (arith, ap branchNumber (rw h at e))
+branch-of-sign s true false h e = omega (arith, ap branchNumber (rw h at e))
 
 pub isotropic-branch : (E : ℕ) (curve : Curve) (abscissa trial : ℤ) (negative : Bool) → isNeg trial ≡ negative
-    → isotropicMoved E curve abscissa trial .branch ≡ cond negative 1 2 → ⊥
+    → isotropicMoved E curve abscissa trial .branch ≡ cond negative Tension Compression → ⊥
 unfolding isotropicMoved
 isotropic-branch E curve abscissa trial negative h e = branch-of-sign trial (isotropicMoved E curve abscissa trial .yielded) negative h e
 
@@ -60,9 +62,9 @@ module _ (h : Sheet) (first second trial : Grain) where
   in-first : (r : Motion) → hasSecond (h .law) ≡ false
       → responseMeaning (settledBy h first second trial r) ≡ inFirst (movedMeaning E (first .0) (trial .0) r) (second .0)
   unfolding movedMeaning
-  in-first Still e = refl
-  in-first (Tension f) e = refl
-  in-first (Compression f) e = rw e
+  in-first motions.Still e = refl
+  in-first (motions.Tension f) e = refl
+  in-first (motions.Compression f) e = rw e
 
   no-second : {law : Law} → h .law ≡ law → hasSecond law ≡ false → hasSecond (h .law) ≡ false
   no-second is e = ap hasSecond is ∙ e
@@ -88,11 +90,11 @@ module _ (h : Sheet) (first second trial : Grain) where
       → movedMeaning E (variableOf negative) (trial .0) r ≡ isotropicMoved E (curveOf (sideBy negative h)) (variableOf negative) (trial .0)
       → responseMeaning (settledBy h first second trial r) ≡ outcomeOf h (first .0) (second .0) (trial .0)
   unfolding outcomeUnder asymmetricOutcome movedMeaning
-  asymmetric-response Still true is s e = rw (is, s) (ap (inSecond (first .0)) e)
-  asymmetric-response (Tension f) true is s e =
+  asymmetric-response motions.Still true is s e = rw (is, s) (ap (inSecond (first .0)) e)
+  asymmetric-response (motions.Tension f) true is s e =
       absurd (isotropic-branch E (curveOf (h .compression)) (second .0) (trial .0) true s (sym (ap (λ (m : Moved). m .branch) e)))
-  asymmetric-response (Compression f) true is s e = rw (is, s) (ap (inSecond (first .0)) e)
-  asymmetric-response Still false is s e = rw (is, s) (ap (λ (m : Moved). inFirst m (second .0)) e)
-  asymmetric-response (Tension f) false is s e = rw (is, s) (ap (λ (m : Moved). inFirst m (second .0)) e)
-  asymmetric-response (Compression f) false is s e =
+  asymmetric-response (motions.Compression f) true is s e = rw (is, s) (ap (inSecond (first .0)) e)
+  asymmetric-response motions.Still false is s e = rw (is, s) (ap (λ (m : Moved). inFirst m (second .0)) e)
+  asymmetric-response (motions.Tension f) false is s e = rw (is, s) (ap (λ (m : Moved). inFirst m (second .0)) e)
+  asymmetric-response (motions.Compression f) false is s e =
       absurd (isotropic-branch E (curveOf (h .tension)) (first .0) (trial .0) false s (sym (ap (λ (m : Moved). m .branch) e)))

@@ -4,6 +4,8 @@
 use mathlib.Core.Logic.{_⊎_}
 use lib.IntN.{pos}
 use Rattle.fractions.specs.Fraction.{Frac, _<F_, _≈F_, whole, _+F_, negF, _-F_}
+use Rattle.branch.specs.declared.Branch.{Branch}
+use Rattle.branch.specs.declared.Branch.the-variants.{Elastic, Tension, Compression}
 use Rattle.law.specs.declared.Law.{Law}
 use Rattle.law.specs.declared.Law.the-variants.{IsotropicLine, IsotropicCurve, Kinematic, Asymmetric}
 use Rattle.curve.specs.Sides.{curveOf}
@@ -30,6 +32,16 @@ pub record SameCandidate (x y : Candidate) : Type 0 where
 -- SPEC 6.8: p grows.
 abbrev pub Grows : Candidate → Type 0
 Grows x = whole (pos 0) <F x .growth
+
+-- SPEC 5.5: E times what plastic strain changes by.
+abbrev pub plasticChange : (trial : Frac) → Candidate → Frac
+plasticChange trial x = trial -F x .stress
+
+-- SPEC 7.7: the branch that a change of plastic strain goes by: elastic where it stays, tension where it grows, compression where it falls.
+abbrev pub Toward : Branch → (change : Frac) → Type 0
+Toward Elastic change = change ≈F whole (pos 0)
+Toward Tension change = whole (pos 0) <F change
+Toward Compression change = change <F whole (pos 0)
 
 -- SPEC 4.7: E times what p grows by on one side, from the abscissa A to A′.
 abbrev pub growthOn : Side → (A A′ : Frac) → Frac

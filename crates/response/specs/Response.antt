@@ -5,6 +5,9 @@ use Prim.Native.Nat.{ℕ, _≤_}
 use mathlib.Core.Path.{_≡_}
 use mathlib.Core.Bool.{Bool, true, false, cond}
 use lib.IntN.{ℤ, pos, natAbs, _-ℤ_}
+use Rattle.branch.specs.declared.Branch.{Branch}
+use Rattle.branch.specs.declared.Branch.the-variants as branches
+use Rattle.branch.specs.Branches.{yieldedBy}
 use Rattle.ranges.specs.Ranges.{mostStress, mostAbscissa}
 use Rattle.law.specs.declared.Law.{Law}
 use Rattle.law.specs.declared.Law.the-variants.{IsotropicLine, IsotropicCurve, Kinematic, Asymmetric}
@@ -17,21 +20,18 @@ use Rattle.curve.specs.Sides.{curveOf}
 use Rattle.sheet.specs.declared.Sheet.{Sheet}
 use Rattle.sheet.specs.Sound.{SheetSound, tangentOf}
 use Rattle.flow.specs.Stored.{isotropicStored, kinematicStored}
-use Rattle.response.specs.declared.Branch.{Branch}
-use Rattle.response.specs.declared.Branch.the-variants as branches
 use Rattle.response.specs.declared.Motion.{Motion}
 use Rattle.response.specs.declared.Motion.the-variants.{Still, Tension, Compression}
 use Rattle.response.specs.declared.Response.{Response}
 
--- SPEC 7.7: the branch, 0 where the rod didn't yield, 1 toward tension, 2 toward compression. A rod flows toward the trial: `s` is the
--- trial stress, for law 2 as seen from the old centre.
-abbrev pub branchOf : Bool → (s : ℤ) → ℕ
-branchOf yielded s = cond yielded (cond (isNeg s) 2 1) 0
+-- SPEC 7.7, 7.11: the branch. A rod flows toward the trial: `s` is the trial stress, for law 2 as seen from the old centre.
+abbrev pub branchOf : (yielded : Bool) → (s : ℤ) → Branch
+branchOf yielded s = cond yielded (cond (isNeg s) branches.Compression branches.Tension) branches.Elastic
 
 -- SPEC 7.6 to 7.8, 7.11: what a pair leaves of the stress and of the variable that the law moves, an abscissa or the centre.
 pub record Moved : Type 0 where
   pub yielded : Bool
-  pub branch : ℕ
+  pub branch : Branch
   pub stress : ℤ
   pub variable : ℤ
   pub tangent : ℕ
@@ -64,7 +64,7 @@ kinematicMoved E tangent yield centre trial =
 -- SPEC 7.6 to 7.8, 7.11: what a pair leaves of the stress and of both variables of a state.
 pub record Outcome : Type 0 where
   pub yielded : Bool
-  pub branch : ℕ
+  pub branch : Branch
   pub stress : ℤ
   pub first : ℤ
   pub second : ℤ
@@ -98,24 +98,12 @@ outcomeUnder Asymmetric h first second trial =
 abbrev pub outcomeOf : Sheet → (first second trial : ℤ) → Outcome
 outcomeOf h first second trial = outcomeUnder (h .law) h first second trial
 
--- SPEC 7.7: the number of a branch,
-abbrev pub branchNumber : Branch → ℕ
-branchNumber branches.Elastic = 0
-branchNumber branches.Tension = 1
-branchNumber branches.Compression = 2
-
--- and whether the rod yielded (SPEC 7.6).
-abbrev pub yieldedBy : Branch → Bool
-yieldedBy branches.Elastic = false
-yieldedBy branches.Tension = true
-yieldedBy branches.Compression = true
-
 -- SPEC 8.8: the numbers of the law's answer.
 abbrev pub responseMeaning : Response → Outcome
 responseMeaning r =
     record {
       yielded = yieldedBy (r .branch);
-      branch = branchNumber (r .branch);
+      branch = r .branch;
       stress = r .stress .0;
       first = r .first .0;
       second = r .second .0;
@@ -124,11 +112,11 @@ responseMeaning r =
 
 -- SPEC 8.8: what each case of a motion stands for, of one variable. Where nothing flowed the stress is the trial and the variable stays.
 unfoldable pub movedMeaning : (E : ℕ) → (variable trial : ℤ) → Motion → Moved
-movedMeaning E variable trial Still = record { yielded = false; branch = 0; stress = trial; variable = variable; tangent = E }
+movedMeaning E variable trial Still = record { yielded = false; branch = branches.Elastic; stress = trial; variable = variable; tangent = E }
 movedMeaning E variable trial (Tension f) =
-    record { yielded = true; branch = 1; stress = f .stress .0; variable = f .variable .0; tangent = f .tangent .0 }
+    record { yielded = true; branch = branches.Tension; stress = f .stress .0; variable = f .variable .0; tangent = f .tangent .0 }
 movedMeaning E variable trial (Compression f) =
-    record { yielded = true; branch = 2; stress = f .stress .0; variable = f .variable .0; tangent = f .tangent .0 }
+    record { yielded = true; branch = branches.Compression; stress = f .stress .0; variable = f .variable .0; tangent = f .tangent .0 }
 
 -- SPEC 7.7: the law's answer, settled here alone: a flow toward compression moves the second variable if there is one, any other the first.
 abbrev pub settledBy : Sheet → (first second trial : Grain) → Motion → Response

@@ -7,7 +7,10 @@ use mathlib.Core.List.{List·Memᴰ}
 use mathlib.Core.Logic.{_↔_}
 use lib.Dec.{T}
 use lib.IntN.{ℤ, natAbs}
-use Rattle.fractions.specs.Fraction.{whole}
+use Rattle.fractions.specs.Fraction.{_<F_, whole, _-F_}
+use Rattle.branch.specs.declared.Branch.{Branch}
+use Rattle.branch.specs.declared.Branch.the-variants.{Elastic, Tension, Compression}
+use Rattle.branch.specs.Branches.{yieldedBy}
 use Rattle.law.specs.declared.Law.{Law}
 use Rattle.law.specs.declared.Law.the-variants.{IsotropicLine, IsotropicCurve, Kinematic, Asymmetric}
 use Rattle.units.specs.Signs.{isNeg}
@@ -16,9 +19,10 @@ use Rattle.curve.specs.Tangent.{Span, holds, spans}
 use Rattle.curve.specs.Sides.{curveOf}
 use Rattle.sheet.specs.declared.Sheet.{Sheet}
 use Rattle.sheet.specs.Sound.{SheetSound, tangentOf}
+use Rattle.flow.specs.Side.{accumulated}
 use Rattle.flow.specs.Rounded.{IsotropicRounded, KinematicRounded, AsymmetricRounded}
 use Rattle.response.specs.Response.{Outcome}
-use Rattle.response.specs.Candidates.{Candidate, SameCandidate, Grows, tensionSide, compressionSide, MeetsUnder, PassesTension, PassesCompression, Passes}
+use Rattle.response.specs.Candidates.{Candidate, SameCandidate, Grows, plasticChange, Toward, tensionSide, compressionSide, MeetsUnder, PassesTension, PassesCompression, Passes}
 
 -- SPEC 7.2 to 7.5: the numbers of an outcome are the roundings of a candidate. A second variable that the law does not have stays.
 abbrev pub RoundsUnder : (h : Sheet) → SheetSound h → Law → (trial first second : ℤ) → Candidate → Outcome → Type 0
@@ -56,8 +60,8 @@ module _ (h : Sheet) (sound : SheetSound h) (law : Law) (trial first second : �
   abbrev pub Meets : Candidate → Type 0
   Meets x = MeetsUnder h sound law (whole trial) (whole first) (whole second) x
 
-  -- SPEC 6.7, 7.1: the conditions have one solution, and an outcome is its rounding. SPEC 6.8, 7.6: it yielded exactly where plastic strain
-  -- grows, and that is where the trial passes a limit. SPEC 7.7, 7.8: the branch says toward which side, and the tangent is the law's there.
+  -- SPEC 6.7, 7.1: the conditions have one solution, and an outcome is its rounding. SPEC 6.8, 7.6: it yielded exactly where p grows, and
+  -- that is where the trial passes a limit. SPEC 7.7, 7.8: the branch says which way plastic strain went, and the tangent is the law's there.
   pub record Solved (o : Outcome) : Type 0 where
     pub exists : (x : Candidate) × Meets x
     pub unique : (x y : Candidate) → Meets x → Meets y → SameCandidate x y
@@ -67,12 +71,24 @@ module _ (h : Sheet) (sound : SheetSound h) (law : Law) (trial first second : �
         → (o′ .stress ≡ o .stress) × (o′ .first ≡ o .first) × (o′ .second ≡ o .second)
     pub grows : (x : Candidate) → Meets x → (o .yielded ≡ true) ↔ Grows x
     pub passes : (o .yielded ≡ true) ↔ Passes h sound law (whole trial) (whole first) (whole second)
-    pub tension : (o .branch ≡ 1) ↔ PassesTension h sound law (whole trial) (whole first) (whole second)
-    pub compression : (o .branch ≡ 2) ↔ PassesCompression h sound law (whole trial) (whole first) (whole second)
+    -- SPEC 7.7: of the three branches it is the one that plastic strain goes by in the solution,
+    pub branch : (x : Candidate) → Meets x → (b : Branch) → (o .branch ≡ b) ↔ Toward b (plasticChange (whole trial) x)
+    -- elastic exactly where it didn't yield,
+    pub marked : o .yielded ≡ yieldedBy (o .branch)
+    -- and else that of the limit which the trial passes;
+    pub tension : (o .branch ≡ Tension) ↔ PassesTension h sound law (whole trial) (whole first) (whole second)
+    pub compression : (o .branch ≡ Compression) ↔ PassesCompression h sound law (whole trial) (whole first) (whole second)
+    -- for a flow of law 2 it is the side of the old centre on which the trial lies,
+    pub centre-side : law ≡ Kinematic → o .yielded ≡ true → (b : Branch) → (o .branch ≡ b) ↔ Toward b (whole trial -F whole first)
+    -- and under law 3 the side that flowed
+    pub tension-flowed : law ≡ Asymmetric → (x : Candidate) → Meets x → let side = tensionSide h sound in
+        (o .branch ≡ Tension) ↔ (accumulated side (whole first) <F accumulated side (x .first))
+    pub compression-flowed : law ≡ Asymmetric → (x : Candidate) → Meets x → let side = compressionSide h sound in
+        (o .branch ≡ Compression) ↔ (accumulated side (whole second) <F accumulated side (x .second))
     -- SPEC 7.8: E without a yield, else by the side that flowed
-    pub tangent-still : o .branch ≡ 0 → o .tangent ≡ h .modulus .0
-    pub tangent-tension : o .branch ≡ 1 → TangentTension h law o
-    pub tangent-compression : o .branch ≡ 2 → TangentCompression h law o
+    pub tangent-still : o .branch ≡ Elastic → o .tangent ≡ h .modulus .0
+    pub tangent-tension : o .branch ≡ Tension → TangentTension h law o
+    pub tangent-compression : o .branch ≡ Compression → TangentCompression h law o
 
 -- SPEC 8.4: an abscissa that is not below its yield,
 pub record PastYield (yield : ℕ) (z : ℤ) : Type 0 where

@@ -1,6 +1,7 @@
 // The law's answer to a trial stress (SPEC 7.11). Magnitude and sign are taken apart, a side is read on magnitudes, the sign is put back.
 mod reached; // reached.rt: the yield limits that a rod has reached
 
+use branch::Branch;
 use curve::Reading;
 use curve::Side;
 use law::Law;
@@ -18,7 +19,7 @@ ghost use Rattle.units.specs.Signs.{isNeg};
 ghost use Rattle.curve.specs.Curve.{limitAt};
 ghost use Rattle.curve.specs.Sides.{Readable, curveOf};
 ghost use Rattle.sheet.specs.Sound.{SideSound, tangentOf};
-ghost use Rattle.response.specs.Response.{Answerable, AbscissaRight, isotropicMoved, kinematicMoved, mostTrial, movedMeaning, outcomeOf, responseMeaning, settledBy, yieldedBy};
+ghost use Rattle.response.specs.Response.{Answerable, AbscissaRight, isotropicMoved, kinematicMoved, mostTrial, movedMeaning, outcomeOf, responseMeaning, settledBy};
 ghost use Rattle.response.specs.Limits.{limitsOf};
 ghost use Rattle.response.specs.SideFlows.{flowAt, flowToward, sideBy, sideFlow};
 
@@ -27,26 +28,6 @@ struct Flowed {
     stress: Grain,
     variable: Grain,
     tangent: Modulus,
-}
-
-// The branch of the law that gave an answer (SPEC 7.7).
-pub enum Branch {
-    Elastic,
-    Tension,
-    Compression,
-}
-
-impl Branch {
-    // Whether the rod flowed.
-    pub fn yielded(self) -> bool
-        ensures { λ r. ⌜ r ≡ yieldedBy self ⌝ }
-    {
-        match self {
-            Branch::Elastic => false,
-            Branch::Tension => true,
-            Branch::Compression => true,
-        }
-    }
 }
 
 // What a pair leaves by the law (SPEC 7.6 to 7.8): its branch, the stress, both variables and the tangent modulus.

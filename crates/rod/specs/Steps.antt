@@ -73,6 +73,7 @@ abbrev pub rowAfter : Sheet → Rod → Pair → Outcome → Row
 rowAfter h r p o =
     record {
       yielded = o .yielded;
+      branch = o .branch;
       tangent = modulus (o .tangent);
       stress = grain (o .stress);
       plastic = grain (plasticOf h (strainAfter r p) (p .temperature .0) (o .stress));

@@ -143,6 +143,7 @@ impl Rod {
         };
         let row = Row {
             yielded: yielded,
+            branch: branch,
             tangent: tangent,
             stress: stress,
             plastic: plastic,

@@ -8,6 +8,8 @@ use lib.ListN.{length, take, getD}
 use Rattle.units.specs.Kinds.{modulus, grain}
 use Rattle.bits.specs.Field.{bitsOf}
 use Rattle.bits.specs.Layout.{Part, widthAt, offset, bitsAt, filled, widths, packed, bytesOf, put}
+use Rattle.branch.specs.Branches.{branchNumbered}
+use Rattle.branch.proofs.BranchLaws.{branch-of-number, number-below-three}
 use Rattle.bits.proofs.SignLaws.{bits-below, signs, flag-below, flag-back}
 use Rattle.bits.proofs.PutLaws.{length-bytesOf, put-over}
 use Rattle.bits.proofs.LayoutLaws.{Fit, nothing, read-back, whole-back}
@@ -33,7 +35,7 @@ module _ (r : Row) (fits : RowFits r) where
   fit =
       let stress = bits-below (widthAt rowLayout 3) (r .stress .0) (omega arith) (fits .stress) in
       let plastic = bits-below (widthAt rowLayout 4) (r .plastic .0) (omega arith) (fits .plastic) in
-      (flag-below (r .yielded), (omega arith, (fits .tangent, (stress, (plastic, tt)))))
+      (flag-below (r .yielded), (omega (arith, number-below-three (r .branch)), (fits .tangent, (stress, (plastic, tt)))))
 
   -- The fields in front make bytes of their own, and so do the stress and E times plastic strain.
   bytes-are : bytesOf frontLength (packed (take 3 (parts r))) ++ (bytesOf stressLength (bitsAt rowLayout 3 (r .stress .0)) ++ bytesOf plasticLength (bitsAt rowLayout 4 (r .plastic .0))) ≡ rowBytes r
@@ -65,7 +67,15 @@ module _ (r : Row) (fits : RowFits r) where
       let number = read-back rowLength (parts r) fit refl in
       let whole = whole-back rowLength (parts r) fit refl in
       let yielded = ap (λ (x : ℕ). eqb x 1) (number 0 (omega arith)) ∙ flag-back (r .yielded) in
+      let branch = ap branchNumbered (number 1 (omega arith)) ∙ branch-of-number (r .branch) in
       let tangent = number 2 (omega arith) in
       let stress = whole 3 (omega arith) (widthAt rowLayout 3) (r .stress .0) (omega arith) (fits .stress) refl in
       let plastic = whole 4 (omega arith) (widthAt rowLayout 4) (r .plastic .0) (omega arith) (fits .plastic) refl in
-      λ i. record { yielded = yielded i; tangent = modulus (tangent i); stress = grain (stress i); plastic = grain (plastic i) }
+      λ i.
+      record {
+        yielded = yielded i;
+        branch = branch i;
+        tangent = modulus (tangent i);
+        stress = grain (stress i);
+        plastic = grain (plastic i);
+      }

@@ -1,4 +1,5 @@
 // A row, what a pair gave in sixteen bytes (SPEC 3.14).
+use branch::Branch;
 use units::Grain;
 use units::Modulus;
 ghost use mathlib.Core.Path.{_≡_};
@@ -15,11 +16,11 @@ const YIELDED_AT: usize = 0;
 
 const YIELDED_WIDTH: usize = 1;
 
-const ZERO_AT: usize = YIELDED_AT + YIELDED_WIDTH;
+const BRANCH_AT: usize = YIELDED_AT + YIELDED_WIDTH;
 
-const ZERO_WIDTH: usize = 3;
+const BRANCH_WIDTH: usize = 3;
 
-const TANGENT_AT: usize = ZERO_AT + ZERO_WIDTH;
+const TANGENT_AT: usize = BRANCH_AT + BRANCH_WIDTH;
 
 const TANGENT_WIDTH: usize = 20;
 
@@ -41,6 +42,7 @@ const LAST_WORD_AT: usize = ROW_LENGTH - 8;
 // `plastic` is E times plastic strain (SPEC 5.4).
 pub struct Row {
     pub yielded: bool,
+    pub branch: Branch,
     pub tangent: Modulus,
     pub stress: Grain,
     pub plastic: Grain,
@@ -52,11 +54,13 @@ impl Row {
         ensures { λ r. ⌜ r ≡ rowOf (now (s .entry)) ⌝ }
     {
         let mark = bits::read(s, YIELDED_AT, YIELDED_WIDTH);
+        let branch = bits::read(s, BRANCH_AT, BRANCH_WIDTH);
         let tangent = bits::read(s, TANGENT_AT, TANGENT_WIDTH);
         let stress = bits::read_whole(s, STRESS_AT, STRESS_WIDTH);
         let plastic = bits::read_whole(s, PLASTIC_AT, PLASTIC_WIDTH);
         Row {
             yielded: mark == 1,
+            branch: Branch::of(branch),
             tangent: Modulus(tangent),
             stress: Grain(stress),
             plastic: Grain(plastic),
@@ -73,12 +77,13 @@ impl Row {
         Grain(stress)
     }
 
-    // The first three fields as one number of 24 bits: yielded, three zero bits, tangent.
+    // The first three fields as one number of 24 bits: yielded, branch, tangent.
     fn front(self) -> u64
         requires { ⌜ RowFits self ⌝ }
         ensures { λ r. ⌜ r ≡ packed (take 3 (filled rowLayout (rowValues self))) ⌝ }
     {
-        let marks = bits::flag(self.yielded) << ZERO_WIDTH;
+        let branch = self.branch;
+        let marks = (bits::flag(self.yielded) << BRANCH_WIDTH) + branch.number();
         (marks << TANGENT_WIDTH) + self.tangent.0
     }
 

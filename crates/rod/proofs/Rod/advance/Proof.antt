@@ -109,7 +109,7 @@ returns c =
         pairs = a .self .pairs + 1;
         «yielded_pairs» = a .self .«yielded_pairs» + counted i;
       };
-      row = record { yielded = yielded i; tangent = o .tangent; stress = o .stress; plastic = plastic i };
+      row = record { yielded = yielded i; branch = o .branch; tangent = o .tangent; stress = o .stress; plastic = plastic i };
     }
 
 pub advance-spec : {M : Type 1} → statement M

@@ -1,0 +1,23 @@
+-- The branches of a law (SPEC 7.7), their numbers in a row, and which of them are a flow, cited by row, response, rod, log and the
+-- demands; definitions only, nothing is assumed.
+use Prim.Native.Nat.{ℕ}
+use mathlib.Core.Bool.{Bool, true, false, cond}
+use lib.Dec.{eqb}
+use Rattle.branch.specs.declared.Branch.{Branch}
+use Rattle.branch.specs.declared.Branch.the-variants.{Elastic, Tension, Compression}
+
+-- SPEC 7.7: the number of a branch,
+abbrev pub branchNumber : Branch → ℕ
+branchNumber Elastic = 0
+branchNumber Tension = 1
+branchNumber Compression = 2
+
+-- and the branch that a number names. None names itself by another; those are read as elastic, which nothing relies on.
+unfoldable pub branchNumbered : ℕ → Branch
+branchNumbered number = cond (eqb number 1) Tension (cond (eqb number 2) Compression Elastic)
+
+-- SPEC 7.6: whether the rod yielded.
+abbrev pub yieldedBy : Branch → Bool
+yieldedBy Elastic = false
+yieldedBy Tension = true
+yieldedBy Compression = true
