@@ -77,11 +77,11 @@ fn side_flow(abscissa: Magnitude, limit: Magnitude, trial: Magnitude) -> SideFlo
     SideFlow::Grown(abscissa.plus(trial.minus(limit)))
 }
 
-// A flow in one of its two directions.
-fn toward(negative: bool, flowed: Flowed) -> Motion
-    ensures { λ r. ⌜ r ≡ flowToward negative flowed ⌝ }
+// A flow toward the trial, by its distance from the centre.
+fn toward(distance: Grain, flowed: Flowed) -> Motion
+    ensures { λ r. ⌜ r ≡ flowToward (isNeg (distance .0)) flowed ⌝ }
 {
-    if negative {
+    if distance.negative() {
         return Motion::Compression(flowed);
     }
     Motion::Tension(flowed)
@@ -121,17 +121,18 @@ fn isotropic(
     abscissa: Grain,
     limit: Magnitude,
     trial: Grain,
+    negative: bool,
 ) -> Motion
     requires { ⌜ Readable (sideBy compression sheet) (sheet .modulus) ⌝ }
     requires ranges { ⌜ AbscissaRight (abscissa .0) × (natAbs (trial .0) ≤ mostTrial) ⌝ }
     requires limit { ⌜ limit .0 ≡ limitAt (sheet .modulus .0) (curveOf (sideBy compression sheet)) (natAbs (abscissa .0)) ⌝ }
+    requires sign { ⌜ negative ≡ isNeg (trial .0) ⌝ }
     ensures { λ r. ⌜ movedMeaning (sheet .modulus .0) (abscissa .0) (trial .0) r ≡ isotropicMoved (sheet .modulus .0) (curveOf (sideBy compression sheet)) (abscissa .0) (trial .0) ⌝ }
 {
     let SideFlow::Grown(moved) = side_flow(abscissa.magnitude(), limit, trial.magnitude()) else {
         return Motion::Still;
     };
     let modulus = sheet.modulus;
-    let negative = trial.negative();
     if compression {
         let side = sheet.compression;
         return flow(side, modulus, moved, negative);
@@ -159,7 +160,7 @@ fn kinematic(side: Side, modulus: Modulus, centre: Grain, trial: Grain) -> Motio
     let moved = centre.plus(Grain::of(negative, shift));
     let stress = moved.plus(Grain::of(negative, radius));
     toward(
-        negative,
+        distance,
         Flowed {
             stress: stress,
             variable: moved,
@@ -184,10 +185,10 @@ fn asymmetric(
 {
     if compression {
         let limit = limits.second;
-        return isotropic(sheet, true, second, limit, trial);
+        return isotropic(sheet, true, second, limit, trial, compression);
     }
     let limit = limits.first;
-    isotropic(sheet, false, first, limit, trial)
+    isotropic(sheet, false, first, limit, trial, compression)
 }
 
 // What the sheet's law moves, from the limits at the two variables and the side that the trial lies on.
@@ -208,7 +209,7 @@ fn move_by_law(
     match law {
         Law::IsotropicLine | Law::IsotropicCurve => {
             let limit = limits.first;
-            isotropic(sheet, false, first, limit, trial)
+            isotropic(sheet, false, first, limit, trial, compression)
         }
         Law::Kinematic => {
             let modulus = sheet.modulus;

@@ -36,7 +36,7 @@ reached s =
 isotropic-requires : tie.Need-isotropic-requires
 isotropic-requires c κs =
     let s = c .before .before in
-    (readable s .1, ((abscissas s .1, s .pre .0 .0 .trial-most), reached s .1))
+    (readable s .1, ((abscissas s .1, s .pre .0 .0 .trial-most), (reached s .1, s .pre .1 .1)))
 
 returns : tie.Need-returns
 returns c =
@@ -49,7 +49,7 @@ returns c =
 isotropic-requires-2 : tie.Need-isotropic-requires-2
 isotropic-requires-2 c κs =
     let s = c .before .before in
-    (readable s .0, ((abscissas s .0, s .pre .0 .0 .trial-most), reached s .0))
+    (readable s .0, ((abscissas s .0, s .pre .0 .0 .trial-most), (reached s .0, s .pre .1 .1)))
 
 returns-2 : tie.Need-returns-2
 returns-2 c =

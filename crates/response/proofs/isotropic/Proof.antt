@@ -23,7 +23,7 @@ side-flow-requires c κs =
 side-answers : (c : tie.After-side-flow) → let a = c .before .before .before .args in
     c .side-flow .result
     ≡ sideFlow (natAbs (a .abscissa .0)) (limitAt (a .sheet .modulus .0) (curveOf (sideBy (a .compression) (a .sheet))) (natAbs (a .abscissa .0))) (natAbs (a .trial .0))
-side-answers c = rw (c .before .before .before .pre .1 .1, c .before .magnitude2 .ensures, c .before .before .magnitude .ensures) at (c .side-flow .ensures)
+side-answers c = rw (c .before .before .before .pre .1 .1 .0, c .before .magnitude2 .ensures, c .before .before .magnitude .ensures) at (c .side-flow .ensures)
 
 returns : tie.Need-returns
 returns c =
@@ -46,37 +46,36 @@ fits c =
     rw (sym (moved c .1)) (omega (arith, s .pre .1 .0))
 
 -- The flow of the side.
-flows : (c : tie.After-negative) (compression : Bool) → let told = c .before .before in
-    let a = told .before .before .before .before .before .before .args in
+flows : (c : tie.After-known-told) (compression : Bool) → let a = c .before .before .before .before .before .before .args in
     a .compression ≡ compression
     → movedMeaning (a .sheet .modulus .0) (a .abscissa .0) (a .trial .0)
-    (flowToward (c .negative .result) (flowAt (sideBy compression (a .sheet)) (a .sheet .modulus) (told .before .moved .given .0 .0) (c .negative .result)))
+    (flowToward (a .negative) (flowAt (sideBy compression (a .sheet)) (a .sheet .modulus) (c .before .moved .given .0 .0) (a .negative)))
     ≡ isotropicMoved (a .sheet .modulus .0) (curveOf (sideBy (a .compression) (a .sheet))) (a .abscissa .0) (a .trial .0)
 flows c compression is =
-    let told = c .before .before in
-    let a = told .before .before .before .before .before .before .args in
-    rw (c .negative .ensures, sym (moved told .1), sym is)
-    (past-limit-flows (sideBy (a .compression) (a .sheet)) (a .sheet .modulus) (a .abscissa .0) (a .trial .0) (moved told .0))
+    let s = c .before .before .before .before .before .before in
+    let a = s .args in
+    rw (s .pre .1 .1 .1, sym (moved c .1), sym is)
+    (past-limit-flows (sideBy (a .compression) (a .sheet)) (a .sheet .modulus) (a .abscissa .0) (a .trial .0) (moved c .0))
 
 flow-requires : tie.Need-flow-requires
 flow-requires c κs =
     let test = c .before in
-    let told = test .before .before .before in
+    let told = test .before .before in
     let s = told .before .before .before .before .before .before in
     (rw (test .if1 .taken) at (s .pre .0), fits told)
 
 returns-2 : tie.Need-returns-2
-returns-2 c = let test = c .before .before in rw (c .flow .ensures) (flows (test .before) true (test .if1 .taken))
+returns-2 c = let test = c .before .before in rw (c .flow .ensures) (flows (test .before .before) true (test .if1 .taken))
 
 flow-requires-2 : tie.Need-flow-requires-2
 flow-requires-2 c κs =
     let test = c .before in
-    let told = test .before .before .before in
+    let told = test .before .before in
     let s = told .before .before .before .before .before .before in
     (rw (test .if1 .left) at (s .pre .0), fits told)
 
 returns-3 : tie.Need-returns-3
-returns-3 c = let test = c .before .before in rw (c .flow2 .ensures) (flows (test .before) false (test .if1 .left))
+returns-3 c = let test = c .before .before in rw (c .flow2 .ensures) (flows (test .before .before) false (test .if1 .left))
 
 pub isotropic-spec : {M : Type 1} → statement M
 isotropic-spec =
@@ -88,7 +87,6 @@ isotropic-spec =
     (λ c. search needs)
     (λ c. search needs)
     returns
-    (λ c κs. search needs)
     flow-requires
     returns-2
     flow-requires-2

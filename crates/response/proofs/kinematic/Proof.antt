@@ -102,6 +102,7 @@ returns-2 c =
       minus2 .minus2 .ensures,
       negative-is negative,
       size-is size,
+      size .before .minus .ensures .0,
     )
     (past-radius-flows (a .modulus .0) (tangentOf (a .t1) 0) (a .t1 .«yield_stress» .0) (a .centre .0) (a .trial .0) past)
 

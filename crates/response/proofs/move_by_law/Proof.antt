@@ -20,7 +20,7 @@ isotropic-requires c κs =
       side-readable (h .tension) (h .modulus) (sound .modulus-least) (sound .modulus-most) (sound .tension),
       (
         (first-is-abscissa (a .first .0) (a .second .0) (isotropic-law arm) (s .pre .0 .variables), s .pre .0 .trial-most),
-        ap (λ (l : Limits). l .first .0) (s .pre .1 .0 ∙ isotropic-limits h (a .first .0) (a .second .0) (isotropic-law arm)),
+        (ap (λ (l : Limits). l .first .0) (s .pre .1 .0 ∙ isotropic-limits h (a .first .0) (a .second .0) (isotropic-law arm)), s .pre .1 .1),
       ),
     )
 
