@@ -86,7 +86,7 @@ static void print_mpa(int64_t grains)
 }
 
 /* Which branch of the law gave a row. */
-static const char *branch_name(int64_t branch)
+static const char *branch_name(unsigned branch)
 {
     switch (branch) {
     case TIE_ROD_ELASTIC:
@@ -103,17 +103,16 @@ static const char *branch_name(int64_t branch)
 static void print_rows(const uint8_t *rows, size_t count)
 {
     for (size_t i = 0; i < count; i++) {
-        size_t at = 8 * TIE_ROD_ROW_BYTES * i;
-        at += 1; /* yielded: 1 exactly where the branch isn't 0 */
-        int64_t branch = take(rows, &at, 3, 0);
-        int64_t tangent = take(rows, &at, 20, 0);
-        int64_t stress = take(rows, &at, 48, 1);
-        int64_t plastic = take(rows, &at, 56, 1);
+        const uint8_t *row = rows + TIE_ROD_ROW_BYTES * i;
+        size_t at = 4; /* yielded, which is 1 exactly where the branch isn't 0, and the branch */
+        int64_t tangent = take(row, &at, 20, 0);
+        int64_t stress = take(row, &at, 48, 1);
+        int64_t plastic = take(row, &at, 56, 1);
         printf("  pair %zu: stress", i + 1);
         print_mpa(stress);
         printf(" MPa, E times plastic strain");
         print_mpa(plastic);
-        printf(" MPa, tangent %" PRId64 " MPa, %s\n", tangent, branch_name(branch));
+        printf(" MPa, tangent %" PRId64 " MPa, %s\n", tangent, branch_name(tie_rod_branch(row)));
     }
 }
 

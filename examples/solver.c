@@ -44,10 +44,10 @@ static int64_t stress_of(const uint8_t *row)
     return field(row + 3, 6);
 }
 
-/* Behind the yielded bit, in 3 bits. */
+/* Which flow gave a row, if one did. */
 static const char *branch_of(const uint8_t *row)
 {
-    switch (row[0] >> 4 & 7) {
+    switch (tie_rod_branch(row)) {
     case TIE_ROD_TENSION:
         return ", tension flow";
     case TIE_ROD_COMPRESSION:
@@ -57,7 +57,7 @@ static const char *branch_of(const uint8_t *row)
     }
 }
 
-/* Behind the branch, in 20 bits. */
+/* Behind yielded and branch, in 20 bits. */
 static int64_t tangent_of(const uint8_t *row)
 {
     return (int64_t)(row[0] & 0x0f) << 16 | row[1] << 8 | row[2];

@@ -81,14 +81,18 @@
  *   tangent       20   E, or after a flow that of the segment reached
  *   stress        48 s
  *   plastic       56 s E times plastic strain, in grains
- *   The branch is row[0] >> 4 & 7, behind the yielded bit of the same byte, and
- *   yielded is 1 exactly when it isn't 0. It says which way plastic strain went:
- *   1 grew, 2 fell, 0 stayed (SPEC 7.7). Neither the sign of the strain change nor
- *   that of the stress tells as much: a rod that is heated can flow in compression
- *   though it is stretched, and under law 2 the branch is the side of the old centre
- *   X on which the trial stress lies, so that a tension flow can end at a negative
- *   stress. It is decided before anything is rounded: a flow of less than a grain
- *   can leave `plastic` as it was.
+ *   Of the first byte yielded is the bit 0x80, the branch 0x70, and 0x0f the highest
+ *   bits of the tangent, whose other 16 are the next two bytes. The branch's bits
+ *   were zero before: firmware from then that takes 23 bits as the tangent, or asks
+ *   whether the byte is 0x80, reads a flow wrongly now.
+ *   tie_rod_branch takes the branch out of a row, and yielded is 1 exactly when it
+ *   isn't 0. It says which way plastic strain went: 1 grew, 2 fell, 0 stayed (SPEC
+ *   7.7). Neither the sign of the strain change nor that of the stress tells as much:
+ *   a rod that is heated can flow in compression though it is stretched, and under
+ *   law 2 the branch of a flow is the side of the old centre X on which the trial
+ *   stress lies, so that a tension flow can end at a negative stress. It is decided
+ *   before anything is rounded: a flow of less than a grain can leave `plastic` as
+ *   it was.
  */
 #ifndef TIE_ROD_H
 #define TIE_ROD_H
@@ -120,7 +124,7 @@ extern "C" {
 /* The greatest tolerance of a grading, in grains; the least is 0. */
 #define TIE_ROD_TOLERANCE_MAX 1000000000000
 
-/* The branches of a row (SPEC 3.14, 7.7), each as row[0] >> 4 & 7 has it. A row of ours has no other. */
+/* The branches of a row (SPEC 3.14, 7.7), each as tie_rod_branch has it. A row of ours has no other. */
 enum tie_rod_branches {
     TIE_ROD_ELASTIC = 0,     /* nothing flowed, and yielded is 0 */
     TIE_ROD_TENSION = 1,     /* plastic strain grew */
@@ -456,6 +460,12 @@ static inline size_t tie_rod_rows(uint64_t answer, size_t pairs_len)
 static inline uint32_t tie_rod_tangent(uint64_t answer)
 {
     return (uint32_t)(answer >> 8);
+}
+
+/* The branch of a row that tie_rod_run, tie_rod_pair or tie_rod_trial has written. */
+static inline unsigned tie_rod_branch(const uint8_t row[TIE_ROD_ROW_BYTES])
+{
+    return (unsigned)((row[0] >> 4) & 7);
 }
 
 #ifdef __cplusplus

@@ -1,4 +1,4 @@
--- What demand 3 says at one stop (SPEC 11.8, 11.9, and 6.6 for 11.11), cited by demands/specs/Lists; definitions only, nothing is assumed.
+-- What demand 3 says at one stop (SPEC 11.8, 11.9, 11.11, and 6.6 for it), cited by demands/specs/Lists; definitions only, nothing is assumed.
 use Prim.Native.Nat.{ℕ}
 use mathlib.Core.Path.{_≡_}
 use mathlib.Core.Bool.{true, false}
@@ -6,6 +6,8 @@ use mathlib.Core.List.{List, [], _∷_}
 use mathlib.Core.Logic.{_↔_}
 use lib.ListN.{length}
 use Rattle.fractions.specs.Fraction.{Frac, whole, Within}
+use Rattle.law.specs.declared.Law.{Law}
+use Rattle.law.specs.Laws.{firstIsAbscissa, hasSecond}
 use Rattle.branch.specs.declared.Branch.the-variants.{Tension, Compression}
 use Rattle.branch.specs.Branches.{yieldedBy}
 use Rattle.units.specs.Kinds.{grain}
@@ -15,8 +17,6 @@ use Rattle.sheet.specs.declared.Sheet.{Sheet}
 use Rattle.sheet.specs.Sound.{SheetSound}
 use Rattle.response.specs.Candidates.{tensionSide, compressionSide, PassesTension, PassesCompression, Passes}
 use Rattle.rod.specs.declared.Rod.{Rod}
-use Rattle.law.specs.declared.Law.{Law}
-use Rattle.law.specs.Laws.{firstIsAbscissa, hasSecond}
 use Rattle.rod.specs.Steps.{trialOf, plasticAt}
 use Rattle.carry.specs.Walk.{yieldedRows}
 use Rattle.accuracy.specs.Bar.{Bar, exactPlastic, barAfter}

@@ -4,10 +4,10 @@ use mathlib.Core.Path.{_≡_, refl}
 use native.Mathlib.Omega.{arith}
 use Rattle.branch.specs.declared.Branch.{Branch}
 use Rattle.branch.specs.declared.Branch.the-variants.{Elastic, Tension, Compression}
-use Rattle.branch.specs.Branches.{branchNumber, branchNumbered}
+use Rattle.branch.specs.Branches.{branchNumber, branchOf}
 
-pub branch-of-number : (b : Branch) → branchNumbered (branchNumber b) ≡ b
-unfolding branchNumbered
+pub branch-of-number : (b : Branch) → branchOf (branchNumber b) ≡ b
+unfolding branchOf
 branch-of-number Elastic = refl
 branch-of-number Tension = refl
 branch-of-number Compression = refl

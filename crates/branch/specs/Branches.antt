@@ -1,5 +1,5 @@
--- The branches of a law (SPEC 7.7), their numbers in a row, and which of them are a flow, cited by row, response, rod, log and the
--- demands; definitions only, nothing is assumed.
+-- The branches of a law (SPEC 7.7), their numbers in a row, and which of them are a flow, cited by row, response, accuracy,
+-- board and log; definitions only, nothing is assumed.
 use Prim.Native.Nat.{ℕ}
 use mathlib.Core.Bool.{Bool, true, false, cond}
 use lib.Dec.{eqb}
@@ -12,9 +12,9 @@ branchNumber Elastic = 0
 branchNumber Tension = 1
 branchNumber Compression = 2
 
--- and the branch that a number names. None names itself by another; those are read as elastic, which nothing relies on.
-unfoldable pub branchNumbered : ℕ → Branch
-branchNumbered number = cond (eqb number 1) Tension (cond (eqb number 2) Compression Elastic)
+-- and the branch of a number. One above 2 is that of no branch and is read as elastic, a free answer: no row of ours has one.
+unfoldable pub branchOf : ℕ → Branch
+branchOf number = cond (eqb number 1) Tension (cond (eqb number 2) Compression Elastic)
 
 -- SPEC 7.6: whether the rod yielded.
 abbrev pub yieldedBy : Branch → Bool

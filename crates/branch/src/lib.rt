@@ -1,6 +1,6 @@
 // The branch of the law that gave a row (SPEC 7.7), and the three bits that name it there (SPEC 3.14).
 ghost use mathlib.Core.Path.{_≡_};
-ghost use Rattle.branch.specs.Branches.{branchNumber, branchNumbered, yieldedBy};
+ghost use Rattle.branch.specs.Branches.{branchNumber, branchOf, yieldedBy};
 
 pub enum Branch {
     Elastic,
@@ -9,8 +9,9 @@ pub enum Branch {
 }
 
 impl Branch {
+    // The branch of a number; any above 2 is read as elastic.
     pub fn of(number: u64) -> Branch
-        ensures { λ r. ⌜ r ≡ branchNumbered number ⌝ }
+        ensures { λ r. ⌜ r ≡ branchOf number ⌝ }
     {
         if number == 1 {
             return Branch::Tension;

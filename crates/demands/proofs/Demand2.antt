@@ -5,7 +5,6 @@ use Prim.Native.Nat.{ℕ, _+_, _<_}
 use mathlib.Core.Path.{_≡_, refl, sym, ap, subst, _∙_}
 use mathlib.Core.List.{List, [], _∷_, _++_, map}
 use native.Mathlib.Omega.{arith}
-use lib.IntN.{ℤ, _-ℤ_}
 use lib.ListN.{length, take}
 use Rattle.refusals.specs.Table.{NoneApplies}
 use Rattle.pair.specs.declared.Pair.{Pair}
@@ -21,7 +20,7 @@ use Rattle.rod.specs.declared.step.Advance.{Advance}
 use Rattle.state.specs.States.{stateOf}
 use Rattle.rod.specs.Steps.{trialOf, outcomeAfter, advanceOf, stepRefusals}
 use Rattle.rod.specs.Accepted.{Accepted}
-use Rattle.rod.proofs.PairSolved.{pair-solved}
+use Rattle.rod.proofs.PairSolved.{pair-solved, pair-shows}
 use Rattle.rod.proofs.PlasticStrain.{plastic-change, unused-plastic}
 use Rattle.carry.specs.Walk.{pairTable, lastRod, rowsOf, History}
 use Rattle.carry.proofs.PairAnswers.{pair-passed}
@@ -54,6 +53,7 @@ module _ {h : Sheet} (sound : SheetSound h) where
         row-is = refl;
         plastic = plastic-change h r p (outcomeAfter h r p .stress);
         row-plastic = refl;
+        shown = pair-shows a p;
       }
 
   -- 10 is decided over the same outcome, whatever the pair.

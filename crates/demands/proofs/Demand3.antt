@@ -5,11 +5,9 @@ use Prim.Native.Nat.{ℕ, _+_, _≤_}
 use mathlib.Core.Path.{_≡_, refl, sym, ap, subst, _∙_}
 use mathlib.Core.Bool.{Bool, true, false, cond}
 use mathlib.Core.List.{List, [], _∷_, _++_, map}
-use mathlib.Core.Logic.{_↔_}
 use native.Mathlib.Omega.{arith}
 use borrow.Author.Tests.{eqb-true, eq-eqb}
 use lib.Dec.{eqb}
-use lib.ListN.{length}
 use Rattle.refusals.specs.Table.{firstOf, passes, NoneApplies}
 use Rattle.refusals.proofs.FirstLaws.{goes-on}
 use Rattle.bits.specs.Field.{flag}

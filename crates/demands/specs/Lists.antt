@@ -3,9 +3,8 @@
 -- assumed.
 use Prim.Native.Nat.{ℕ, _+_, _-_, _*_, _≤_, _<_}
 use mathlib.Core.Path.{_≡_}
-use mathlib.Core.Bool.{true, cond}
+use mathlib.Core.Bool.{cond}
 use mathlib.Core.List.{List, [], _∷_, _++_, map}
-use mathlib.Core.Logic.{_↔_}
 use lib.ListN.{length, take, replicate}
 use lib.Dec.{eqb}
 use Rattle.refusals.specs.Table.{NoneApplies}

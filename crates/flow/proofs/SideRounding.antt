@@ -10,7 +10,7 @@ use native.Mathlib.Omega.{arith}
 use lib.Dec.{leb}
 use lib.IntN.{ℤ, pos}
 use Rattle.fractions.specs.Fraction.{Frac, _≤F_, _<F_, _≈F_, whole, _+F_, _-F_}
-use Rattle.fractions.proofs.Common.{is-add, is-sub, is-le, is-eq, at-common}
+use Rattle.fractions.proofs.Common.{is-whole, is-whole-one, is-add, is-sub, is-le, is-lt, is-eq, at-common}
 use Rattle.fractions.proofs.Comparison.{≤F-antisym, ≈F-sym, <F-not-≤F, ≤F-or-<F, ≈F-trans, ≈F-refl, whole-eq}
 use Rattle.fractions.proofs.Cases.{cond-cases}
 use Rattle.fractions.proofs.Rounded.{floor-passed, excess-ceiling, ceiling-same, floor-unique, ceiling-unique}
@@ -22,7 +22,7 @@ use Rattle.flow.specs.Stored.{SideStored, sideStored}
 use Rattle.flow.proofs.OneSide.{accumulated-injective, grows-past-limit}
 
 module _ {side : Side} {trial A q B : Frac} (h : OnSide side A q B) (e : trial ≈F (q +F (accumulated side B -F accumulated side A))) where
-  -- Where plastic strain grew the abscissa is the one of the step,
+  -- Where p grew the abscissa is the one of the step,
   pub grown-abscissa : accumulated side A <F accumulated side B → B ≈F flowed side trial A
   grown-abscissa l =
       at-common (trial ∷ A ∷ side .limit A ∷ q ∷ B ∷ side .limit B ∷ [])
@@ -99,3 +99,30 @@ abscissa-unique {side} {A} {B} {a} {a′} r r′ =
 pub limit-unique : {side : Side} {a : ℤ} {R R′ : ℕ} → LimitRounded side a R → LimitRounded side a R′ → R ≡ R′
 limit-unique {side} {a} {R} {R′} r r′ = pos-injective R R′
     (floor-unique (pos R) (pos R′) (≈F-refl (side .limit (whole a))) (r .floor) (r′ .floor))
+
+-- The limit rounded down grows by no more than the abscissa,
+module _ {side : Side} (curve : Hardens side) {limit : ℕ → ℕ} (floor : (a : ℕ) → LimitRounded side (pos a) (limit a)) (A : ℕ)
+    (p : side .yield ≤F whole (pos A)) where
+  limit-gentle : (n : ℕ) → 0 < n → limit (A + n) ≤ limit A + n
+  limit-gentle n some =
+      let lower = floor-passed (floor A .floor) (limit A + 1) .1 (omega arith) in
+      let upper : side .limit (whole (pos (A + n))) <F whole (pos (limit A + n + 1)) =
+      at-common (side .limit (whole (pos A)) ∷ side .limit (whole (pos (A + n))) ∷ [])
+      (λ d ((_, _, i), ((_, _, j), _)).
+      let a = is-whole (pos A) (i .some) in
+      let b = is-whole (pos (A + n)) (i .some) in
+      let further = is-lt (is-whole-one (pos A)) (is-whole-one (pos (A + n))) .1 (omega arith) in
+      is-lt j (is-whole (pos (limit A + n + 1)) (i .some)) .1
+      (omega (
+        arith,
+        is-lt (is-sub a i) (is-sub b j) .0 (curve .gentle p further),
+        is-lt i (is-whole (pos (limit A + 1)) (i .some)) .0 lower,
+      ))) in
+      omega (arith, floor-passed (floor (A + n) .floor) (limit A + n + 1) .0 upper)
+
+  -- so what a side stores isn't above the trial.
+  pub stored-within : (m : ℕ) → sideStored limit m A .magnitude ≤ m
+  unfolding sideStored
+  stored-within m =
+      cond-cases (λ (r : SideStored). r .magnitude ≤ m) (leb m (limit A)) _ _ (λ t. omega arith)
+      (λ t. let past = leb-false m (limit A) t in omega (arith, limit-gentle (m - limit A) (omega arith)))

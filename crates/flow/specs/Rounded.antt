@@ -7,7 +7,7 @@ use Rattle.fractions.specs.Fraction.{Frac, _≤F_, _<F_, _≈F_, whole, _-F_, a
 use Rattle.fractions.specs.Rounding.{Floor, Ceiling}
 use Rattle.flow.specs.Side.{Side, accumulated}
 
--- SPEC 7.2, 7.5: where plastic strain grew, the stored abscissa is the candidate's rounded up, and else the candidate's own.
+-- SPEC 7.2, 7.5: where p grew, the stored abscissa is the candidate's rounded up, and else the candidate's own.
 pub record AbscissaRounded (side : Side) (A B : Frac) (stored : ℤ) : Type 0 where
   pub grown : accumulated side A <F accumulated side B → Ceiling B stored
   pub still : accumulated side B ≤F accumulated side A → B ≈F whole stored

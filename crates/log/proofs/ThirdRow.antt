@@ -7,7 +7,7 @@ use Rattle.refusals.specs.Table.{firstOf}
 use Rattle.bits.specs.Field.{field, twos, bitsOf}
 use Rattle.bits.specs.Layout.{widths, packed, bytesOf}
 use Rattle.law.specs.Laws.{lawOf}
-use Rattle.branch.specs.Branches.{branchNumbered}
+use Rattle.branch.specs.Branches.{branchOf}
 use Rattle.curve.specs.Curve.{rise, height, limitAt}
 use Rattle.curve.specs.Sides.{segmentsOf, curveOf}
 use Rattle.curve.specs.Tangent.{spans, tangentIn, tangentAt}
@@ -44,5 +44,5 @@ pairs = 0 ∷ 22 ∷ 227 ∷ 96 ∷ 0 ∷ 200 ∷ 31 ∷ 210 ∷ 57 ∷ 64 ∷ 0
 
 pub third-row : textOf (sheet ++ state ++ pairs)
     ≡ ascii "pair stress plastic tangent yielded branch\n1 201000000000 99000000000 2000 1 1\n2 -202980000000 -97020000000 2000 1 2\nend 2\n"
-unfolding textOf toldOf toldBy logRefusals linesOf linesFrom lineOf lastLine numeral digitsWithin signedNumeral firstOf field twos bitsOf widths packed bytesOf lawOf branchNumbered rise height limitAt segmentsOf curveOf spans tangentIn tangentAt allBelow lengthWrong sheetCountsRight constantsRight yieldsRight headerRight lengthsRight pointsRight tangentsRight temperaturesRise sheetFieldRefusals sheetRefusals listed placed sheetOf thermalOf coefficientIn pairInRange pairRefusals listRefusals rowBytes isotropicStored sideStored isotropicMoved outcomeUnder againstRefusals belongs isotropicBelongs withinLimit stateRefusals trialOf advanceOf strainLeaves leavesRange stepRefusals standingRefusals pairTable pairAnswer walk rowsBytes calls.pieces states.stateFieldRefusals rods.rodInRange
+unfolding textOf toldOf toldBy logRefusals linesOf linesFrom lineOf lastLine numeral digitsWithin signedNumeral firstOf field twos bitsOf widths packed bytesOf lawOf branchOf rise height limitAt segmentsOf curveOf spans tangentIn tangentAt allBelow lengthWrong sheetCountsRight constantsRight yieldsRight headerRight lengthsRight pointsRight tangentsRight temperaturesRise sheetFieldRefusals sheetRefusals listed placed sheetOf thermalOf coefficientIn pairInRange pairRefusals listRefusals rowBytes isotropicStored sideStored isotropicMoved outcomeUnder againstRefusals belongs isotropicBelongs withinLimit stateRefusals trialOf advanceOf strainLeaves leavesRange stepRefusals standingRefusals pairTable pairAnswer walk rowsBytes calls.pieces states.stateFieldRefusals rods.rodInRange
 third-row = refl

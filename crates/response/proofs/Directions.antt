@@ -25,27 +25,27 @@ use Rattle.response.proofs.Candidates.{PastUnder, tension-hardens, comp
 
 -- A change goes by one branch only.
 module _ (d : Frac) where
-  stays-or-grows : d ≈F whole (pos 0) → ¬ (whole (pos 0) <F d)
-  stays-or-grows e l = at-common (d ∷ []) (λ k ((_, _, i), _).
+  not-still-and-up : d ≈F whole (pos 0) → ¬ (whole (pos 0) <F d)
+  not-still-and-up e l = at-common (d ∷ []) (λ k ((_, _, i), _).
       let nought = is-whole (pos 0) (i .some) in omega (arith, is-eq i nought .0 e, is-lt nought i .0 l))
 
-  stays-or-falls : d ≈F whole (pos 0) → ¬ (d <F whole (pos 0))
-  stays-or-falls e l = at-common (d ∷ []) (λ k ((_, _, i), _).
+  not-still-and-down : d ≈F whole (pos 0) → ¬ (d <F whole (pos 0))
+  not-still-and-down e l = at-common (d ∷ []) (λ k ((_, _, i), _).
       let nought = is-whole (pos 0) (i .some) in omega (arith, is-eq i nought .0 e, is-lt i nought .0 l))
 
-  grows-or-falls : whole (pos 0) <F d → ¬ (d <F whole (pos 0))
-  grows-or-falls l l′ = at-common (d ∷ []) (λ k ((_, _, i), _).
+  not-up-and-down : whole (pos 0) <F d → ¬ (d <F whole (pos 0))
+  not-up-and-down l l′ = at-common (d ∷ []) (λ k ((_, _, i), _).
       let nought = is-whole (pos 0) (i .some) in omega (arith, is-lt nought i .0 l, is-lt i nought .0 l′))
 
   one-way : (b c : Branch) → Toward b d → Toward c d → b ≡ c
   one-way Elastic Elastic t u = refl
-  one-way Elastic Tension t u = absurd (stays-or-grows t u)
-  one-way Elastic Compression t u = absurd (stays-or-falls t u)
-  one-way Tension Elastic t u = absurd (stays-or-grows u t)
+  one-way Elastic Tension t u = absurd (not-still-and-up t u)
+  one-way Elastic Compression t u = absurd (not-still-and-down t u)
+  one-way Tension Elastic t u = absurd (not-still-and-up u t)
   one-way Tension Tension t u = refl
-  one-way Tension Compression t u = absurd (grows-or-falls t u)
-  one-way Compression Elastic t u = absurd (stays-or-falls u t)
-  one-way Compression Tension t u = absurd (grows-or-falls u t)
+  one-way Tension Compression t u = absurd (not-up-and-down t u)
+  one-way Compression Elastic t u = absurd (not-still-and-down u t)
+  one-way Compression Tension t u = absurd (not-up-and-down u t)
   one-way Compression Compression t u = refl
 
   pub only-way : {b : Branch} → Toward b d → (c : Branch) → (b ≡ c) ↔ Toward c d
@@ -209,8 +209,7 @@ module _ (h : Sheet) (sound : SheetSound h) where
   pub ways-under : (law : Law) → h .law ≡ law → (trial first second : Frac) (x : Candidate) → PastUnder h sound law first second
       → MeetsUnder h sound law trial first second x → Ways law trial first second x
   ways-under IsotropicLine is trial A second x past m =
-      let w = isotropic-ways trial A second x past m (grows-passes h sound IsotropicLine is trial A second x past m .1) in
-      record { up = w .up; down = w .down; still = w .still }
+      isotropic-ways trial A second x past m (grows-passes h sound IsotropicLine is trial A second x past m .1)
   ways-under IsotropicCurve is trial A second x past m =
       let w = isotropic-ways trial A second x past m (grows-passes h sound IsotropicCurve is trial A second x past m .1) in
       record { up = w .up; down = w .down; still = w .still }

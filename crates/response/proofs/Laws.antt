@@ -28,7 +28,7 @@ use Rattle.flow.proofs.Asymmetric.{asymmetric-grows}
 use Rattle.flow.proofs.IsotropicRounding.{isotropic-rounded, isotropic-rounded-unique}
 use Rattle.flow.proofs.KinematicRounding.{kinematic-rounded, kinematic-rounded-unique}
 use Rattle.flow.proofs.AsymmetricRounding.{asymmetric-rounded, asymmetric-rounded-unique}
-use Rattle.response.specs.Response.{Outcome, branchOf, isotropicMoved, kinematicMoved, inFirst, asymmetricOutcome, outcomeUnder, outcomeOf}
+use Rattle.response.specs.Response.{Outcome, flowBranch, isotropicMoved, kinematicMoved, inFirst, asymmetricOutcome, outcomeUnder, outcomeOf}
 use Rattle.response.specs.Candidates.{Candidate, Grows, plasticChange, Toward, tensionSide, compressionSide, MeetsUnder, Passes, PassesTension, PassesCompression}
 use Rattle.response.specs.Solved.{RoundsUnder, SegmentTangent, TangentTension, TangentCompression, Meets, Solved, PastYield, AbscissasPast}
 use Rattle.response.proofs.Candidates.{PastUnder, tension-hardens, compression-hardens, radius-positive, solutionUnder, solution-meets, meets-same, grows-passes, sides-grow}
@@ -40,7 +40,7 @@ use Rattle.response.proofs.Directions.{only-way, by-limits, above-nough
 -- Law 3's outcome has the numbers of flow's `asymmetricStored`.
 pub record AsStored (o : Outcome) (trial : ℤ) (stored : AsymmetricStored) : Type 0 where
   pub yielded : o .yielded ≡ stored .yielded
-  pub branch : o .branch ≡ branchOf (stored .yielded) trial
+  pub branch : o .branch ≡ flowBranch (stored .yielded) trial
   pub stress : o .stress ≡ stored .stress
   pub first : o .first ≡ pos (stored .tension)
   pub second : o .second ≡ pos (stored .compression)
@@ -68,7 +68,7 @@ asymmetric-tangents E tension compression A B (negsuc m) h h′ = (
   tangent-of-segment E compression (pos B) (negsuc m) h′ Compression refl,
 )
 
-past-yield : {yield A : ℕ} → yield ≤ A → whole (pos yield) ≤F whole (pos A)
+pub past-yield : {yield A : ℕ} → yield ≤ A → whole (pos yield) ≤F whole (pos A)
 past-yield {yield} {A} h = is-le (is-whole-one (pos yield)) (is-whole-one (pos A)) .1 (omega arith)
 
 past-whole : (yield : ℕ) (z : ℤ) → PastYield yield z → whole (pos yield) ≤F whole z

@@ -7,3 +7,4 @@ pub mod Passing
 pub mod Directions
 pub mod MovedTangent
 pub mod Laws
+pub mod StoredWays

@@ -14,7 +14,7 @@ use Rattle.curve.specs.Curve.{Curve, limitAt}
 use Rattle.curve.specs.Tangent.{tangentAt}
 use Rattle.curve.proofs.Tangents.{tangent-of-holder, holder-exists}
 use Rattle.flow.specs.Stored.{sideStored, isotropicStored}
-use Rattle.response.specs.Response.{branchOf, isotropicMoved}
+use Rattle.response.specs.Response.{flowBranch, isotropicMoved}
 use Rattle.response.specs.Solved.{SegmentTangent}
 
 -- Elastic is no flow, and every other branch is one.
@@ -22,11 +22,11 @@ some-flow : (negative : Bool) → yieldedBy (cond negative Compression Tension) 
 some-flow true = refl
 some-flow false = refl
 
-pub branch-marks : (yielded : Bool) (s : ℤ) → yielded ≡ yieldedBy (branchOf yielded s)
+pub branch-marks : (yielded : Bool) (s : ℤ) → yielded ≡ yieldedBy (flowBranch yielded s)
 branch-marks true s = sym (some-flow (isNeg s))
 branch-marks false s = refl
 
-pub branch-is : (yielded : Bool) (s : ℤ) (b : Branch) → branchOf yielded s ≡ b → yielded ≡ yieldedBy b
+pub branch-is : (yielded : Bool) (s : ℤ) (b : Branch) → flowBranch yielded s ≡ b → yielded ≡ yieldedBy b
 branch-is yielded s b e = branch-marks yielded s ∙ ap yieldedBy e
 
 -- The abscissa never falls.

@@ -10,7 +10,7 @@ use Rattle.fractions.specs.Fraction.{Frac, _<F_, _≈F_, whole, negF}
 use Rattle.fractions.proofs.Common.{is-whole, is-neg, is-lt, is-eq, at-common}
 use Rattle.branch.specs.declared.Branch.the-variants.{Tension, Compression}
 use Rattle.branch.specs.Branches.{branchNumber}
-use Rattle.response.specs.Response.{branchOf}
+use Rattle.response.specs.Response.{flowBranch}
 
 -- A trial of one sign passes no limit of the other.
 module _ {R u : Frac} (high : whole (pos 0) <F R) where
@@ -37,7 +37,7 @@ module _ {R R′ u : Frac} (high : whole (pos 0) <F R) (high′ : whole (pos 0) 
 
   -- A flow is that of the limit which the trial passes; u is the trial s, whatever its denominator.
   pub branch-passes : (s : ℤ) → u ≈F whole s → (yielded : Bool) → (yielded ≡ true) ↔ ((R <F u) ⊎ (R′ <F negF u))
-      → ((branchOf yielded s ≡ Tension) ↔ (R <F u)) × ((branchOf yielded s ≡ Compression) ↔ (R′ <F negF u))
+      → ((flowBranch yielded s ≡ Tension) ↔ (R <F u)) × ((flowBranch yielded s ≡ Compression) ↔ (R′ <F negF u))
   branch-passes (pos n) is true e = (
     (λ b. ⊎-elim (λ l. l) (λ l. absurd (not-above-negated high′ n is l)) (e .0 refl), λ l. refl),
     (λ b. absurd (omega (arith, ap branchNumber b)), λ l. absurd (not-above-negated high′ n is l)),

@@ -22,7 +22,7 @@ use Rattle.sheet.specs.declared.Sheet.{Sheet}
 use Rattle.sheet.specs.Sound.{tangentOf}
 use Rattle.response.specs.declared.Motion.{Motion}
 use Rattle.response.specs.declared.Motion.the-variants as motions
-use Rattle.response.specs.Response.{branchOf, Moved, isotropicMoved, kinematicMoved, inFirst, inSecond, asymmetricOutcome, outcomeUnder, outcomeOf, movedMeaning, settledBy, responseMeaning, AbscissaRight, VariablesRight}
+use Rattle.response.specs.Response.{flowBranch, Moved, isotropicMoved, kinematicMoved, inFirst, inSecond, asymmetricOutcome, outcomeUnder, outcomeOf, movedMeaning, settledBy, responseMeaning, AbscissaRight, VariablesRight}
 use Rattle.response.specs.SideFlows.{sideBy}
 
 -- Law 0 or 1.
@@ -43,7 +43,7 @@ first-is-abscissa first second (inl is) v = rw is at v
 first-is-abscissa first second (inr is) v = rw is at v
 
 -- The branch of a flow goes by the trial's sign.
-branch-of-sign : (s : ℤ) (yielded negative : Bool) → isNeg s ≡ negative → branchOf yielded s ≡ cond negative Tension Compression → ⊥
+branch-of-sign : (s : ℤ) (yielded negative : Bool) → isNeg s ≡ negative → flowBranch yielded s ≡ cond negative Tension Compression → ⊥
 branch-of-sign s false true h e = omega (arith, ap branchNumber e)
 branch-of-sign s false false h e = omega (arith, ap branchNumber e)
 branch-of-sign s true true h e = omega (arith, ap branchNumber (rw h at e))

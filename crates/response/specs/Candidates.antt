@@ -1,6 +1,6 @@
--- Candidates, and the conditions of a sheet's law over fractions (SPEC 6.1, 6.3 to 6.8), cited by Solved for the stored rod, which puts its
--- whole numbers in, and by accuracy for the bar, which puts in its own fractions; definitions only, nothing is assumed. The conditions are
--- flow's, put to the sides of the sheet. `sound` says that the sheet passes, so that 0 < E and t < E.
+-- Candidates, and the conditions of a sheet's law over fractions (SPEC 5.5, 6.1, 6.3 to 6.8, 7.7), cited by Solved for the stored rod,
+-- which puts its whole numbers in, and by accuracy for the bar, which puts in its own fractions; definitions only, nothing is assumed. The
+-- conditions are flow's, put to the sides of the sheet. `sound` says that the sheet passes, so that 0 < E and t < E.
 use mathlib.Core.Logic.{_⊎_}
 use lib.IntN.{pos}
 use Rattle.fractions.specs.Fraction.{Frac, _<F_, _≈F_, whole, _+F_, negF, _-F_}
@@ -37,7 +37,7 @@ Grows x = whole (pos 0) <F x .growth
 abbrev pub plasticChange : (trial : Frac) → Candidate → Frac
 plasticChange trial x = trial -F x .stress
 
--- SPEC 7.7: the branch that a change of plastic strain goes by: elastic where it stays, tension where it grows, compression where it falls.
+-- SPEC 7.7: the branch that a change of plastic strain goes by: it stays in the elastic one, grows in tension, falls in compression.
 abbrev pub Toward : Branch → (change : Frac) → Type 0
 Toward Elastic change = change ≈F whole (pos 0)
 Toward Tension change = whole (pos 0) <F change

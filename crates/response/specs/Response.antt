@@ -25,8 +25,8 @@ use Rattle.response.specs.declared.Motion.the-variants.{Still, Tension, 
 use Rattle.response.specs.declared.Response.{Response}
 
 -- SPEC 7.7, 7.11: the branch. A rod flows toward the trial: `s` is the trial stress, for law 2 as seen from the old centre.
-abbrev pub branchOf : (yielded : Bool) → (s : ℤ) → Branch
-branchOf yielded s = cond yielded (cond (isNeg s) branches.Compression branches.Tension) branches.Elastic
+abbrev pub flowBranch : (yielded : Bool) → (s : ℤ) → Branch
+flowBranch yielded s = cond yielded (cond (isNeg s) branches.Compression branches.Tension) branches.Elastic
 
 -- SPEC 7.6 to 7.8, 7.11: what a pair leaves of the stress and of the variable that the law moves, an abscissa or the centre.
 pub record Moved : Type 0 where
@@ -43,7 +43,7 @@ isotropicMoved E curve abscissa trial =
     let side = isotropicStored (limitAt E curve) trial (natAbs abscissa) in
     record {
       yielded = side .yielded;
-      branch = branchOf (side .yielded) trial;
+      branch = flowBranch (side .yielded) trial;
       stress = side .stress;
       variable = pos (side .abscissa);
       tangent = cond (side .yielded) (tangentAt E curve (side .abscissa)) E;
@@ -55,7 +55,7 @@ kinematicMoved E tangent yield centre trial =
     let stored = kinematicStored E tangent yield trial centre in
     record {
       yielded = stored .yielded;
-      branch = branchOf (stored .yielded) (trial -ℤ centre);
+      branch = flowBranch (stored .yielded) (trial -ℤ centre);
       stress = stored .stress;
       variable = stored .centre;
       tangent = cond (stored .yielded) tangent E;

@@ -7,6 +7,7 @@ use mathlib.Core.List.{List·Memᴰ}
 use mathlib.Core.Logic.{_↔_}
 use lib.Dec.{T}
 use lib.IntN.{ℤ, natAbs}
+use lib.Signed.{_≤ℤ_}
 use Rattle.fractions.specs.Fraction.{_<F_, whole, _-F_}
 use Rattle.branch.specs.declared.Branch.{Branch}
 use Rattle.branch.specs.declared.Branch.the-variants.{Elastic, Tension, Compression}
@@ -61,7 +62,8 @@ module _ (h : Sheet) (sound : SheetSound h) (law : Law) (trial first second : �
   Meets x = MeetsUnder h sound law (whole trial) (whole first) (whole second) x
 
   -- SPEC 6.7, 7.1: the conditions have one solution, and an outcome is its rounding. SPEC 6.8, 7.6: it yielded exactly where p grows, and
-  -- that is where the trial passes a limit. SPEC 7.7, 7.8: the branch says which way plastic strain went, and the tangent is the law's there.
+  -- that is where the trial passes a limit. SPEC 7.7, 7.8: the branch says which way plastic strain went, and the tangent is the law's
+  -- there.
   pub record Solved (o : Outcome) : Type 0 where
     pub exists : (x : Candidate) × Meets x
     pub unique : (x y : Candidate) → Meets x → Meets y → SameCandidate x y
@@ -89,6 +91,13 @@ module _ (h : Sheet) (sound : SheetSound h) (law : Law) (trial first second : �
     pub tangent-still : o .branch ≡ Elastic → o .tangent ≡ h .modulus .0
     pub tangent-tension : o .branch ≡ Tension → TangentTension h law o
     pub tangent-compression : o .branch ≡ Compression → TangentCompression h law o
+
+-- SPEC 7.7: what stored numbers show of a branch, where E times plastic strain goes from one to the other: it stays in the elastic branch,
+-- doesn't fall in tension and doesn't rise in compression.
+abbrev pub Shows : Branch → (before after : ℤ) → Type 0
+Shows Elastic before after = after ≡ before
+Shows Tension before after = before ≤ℤ after
+Shows Compression before after = after ≤ℤ before
 
 -- SPEC 8.4: an abscissa that is not below its yield,
 pub record PastYield (yield : ℕ) (z : ℤ) : Type 0 where

@@ -176,47 +176,47 @@ fn asymmetric(
     first: Grain,
     second: Grain,
     trial: Grain,
-    compression: bool,
+    negative: bool,
 ) -> Motion
     requires { ⌜ Answerable sheet (first .0) (second .0) (trial .0) × (sheet .law ≡ Law.Asymmetric) ⌝ }
     requires limits { ⌜ limits ≡ limitsOf sheet (first .0) (second .0) ⌝ }
-    requires side { ⌜ compression ≡ isNeg (trial .0) ⌝ }
+    requires sign { ⌜ negative ≡ isNeg (trial .0) ⌝ }
     ensures { λ r. ⌜ responseMeaning (settledBy sheet first second trial r) ≡ outcomeOf sheet (first .0) (second .0) (trial .0) ⌝ }
 {
-    if compression {
+    if negative {
         let limit = limits.second;
-        return isotropic(sheet, true, second, limit, trial, compression);
+        return isotropic(sheet, true, second, limit, trial, negative);
     }
     let limit = limits.first;
-    isotropic(sheet, false, first, limit, trial, compression)
+    isotropic(sheet, false, first, limit, trial, negative)
 }
 
-// What the sheet's law moves, from the limits at the two variables and the side that the trial lies on.
+// What the sheet's law moves, from the limits at the two variables, the trial and its sign.
 fn move_by_law(
     sheet: Sheet,
     limits: Limits,
     first: Grain,
     second: Grain,
     trial: Grain,
-    compression: bool,
+    negative: bool,
 ) -> Motion
     requires { ⌜ Answerable sheet (first .0) (second .0) (trial .0) ⌝ }
     requires limits { ⌜ limits ≡ limitsOf sheet (first .0) (second .0) ⌝ }
-    requires side { ⌜ compression ≡ isNeg (trial .0) ⌝ }
+    requires sign { ⌜ negative ≡ isNeg (trial .0) ⌝ }
     ensures { λ r. ⌜ responseMeaning (settledBy sheet first second trial r) ≡ outcomeOf sheet (first .0) (second .0) (trial .0) ⌝ }
 {
     let law = sheet.law;
     match law {
         Law::IsotropicLine | Law::IsotropicCurve => {
             let limit = limits.first;
-            isotropic(sheet, false, first, limit, trial, compression)
+            isotropic(sheet, false, first, limit, trial, negative)
         }
         Law::Kinematic => {
             let modulus = sheet.modulus;
             let tension = sheet.tension;
             kinematic(tension, modulus, first, trial)
         }
-        Law::Asymmetric => asymmetric(sheet, limits, first, second, trial, compression),
+        Law::Asymmetric => asymmetric(sheet, limits, first, second, trial, negative),
     }
 }
 
@@ -272,13 +272,13 @@ pub fn respond(
     first: Grain,
     second: Grain,
     trial: Grain,
-    compression: bool,
+    negative: bool,
 ) -> Response
     requires { ⌜ Answerable sheet (first .0) (second .0) (trial .0) ⌝ }
     requires limits { ⌜ limits ≡ limitsOf sheet (first .0) (second .0) ⌝ }
-    requires side { ⌜ compression ≡ isNeg (trial .0) ⌝ }
+    requires sign { ⌜ negative ≡ isNeg (trial .0) ⌝ }
     ensures { λ r. ⌜ responseMeaning r ≡ outcomeOf sheet (first .0) (second .0) (trial .0) ⌝ }
 {
-    let moved = move_by_law(sheet, limits, first, second, trial, compression);
+    let moved = move_by_law(sheet, limits, first, second, trial, negative);
     settle(sheet, first, second, trial, moved)
 }

@@ -4,6 +4,6 @@ pub mod ThermalFacts
 pub mod VariableLaws
 pub mod UnusedLaws
 pub mod StepLaws
-pub mod PairSolved
 pub mod PlasticStrain
+pub mod PairSolved
 pub mod BelongsKept

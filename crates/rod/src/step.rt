@@ -174,8 +174,8 @@ impl Rod {
         }
         let first = self.first;
         let second = self.second;
-        let compression = trial.negative();
-        let response = response::respond(sheet, limits, first, second, trial, compression);
+        let negative = trial.negative();
+        let response = response::respond(sheet, limits, first, second, trial, negative);
         if leaves_range(self, response) {
             return Stepped::OutOfRange;
         }

@@ -3,7 +3,7 @@ use mathlib.Core.Path.{ap, _∙_}
 use borrow.Author.Needs.{needs}
 use lib.Dec.{eqb}
 use Rattle.units.specs.Kinds.{modulus, grain}
-use Rattle.branch.specs.Branches.{branchNumbered}
+use Rattle.branch.specs.Branches.{branchOf}
 use Rattle.bits.proofs.SignLaws.{held-as}
 use Rattle.row.proofs.Row.read.Statement.{statement}
 use Rattle.row.proofs.Row.read.Tie as tie
@@ -16,7 +16,7 @@ returns c =
     let branch = tangent .before in
     let mark = branch .before in
     let yielded = ap (λ (x : ℕ). eqb x 1) (mark .read .ensures) in
-    let branch-is = c .of .ensures ∙ ap branchNumbered (branch .read2 .ensures) in
+    let branch-is = c .of .ensures ∙ ap branchOf (branch .read2 .ensures) in
     let stress-is = held-as (stress .read-whole .ok) (stress .read-whole .ensures) in
     let plastic-is = held-as (plastic .read-whole2 .ok) (plastic .read-whole2 .ensures) in
     λ i.
