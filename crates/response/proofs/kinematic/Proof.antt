@@ -1,6 +1,7 @@
 use Prim.Native.Nat.{_+_, _≤_, _<_}
 use mathlib.Core.Path.{_≡_, sym, _∙_, ap}
 use Rattle.units.specs.declared.Grain.{Grain}
+use Rattle.units.specs.Kinds.{modulus}
 use Rattle.units.specs.Signs.{isNeg}
 use native.Mathlib.Omega.{arith}
 use lib.IntN.{natAbs, _-ℤ_}
@@ -8,7 +9,9 @@ use borrow.Author.Needs.{needs}
 use borrow.Author.Tests.{ltb-true, ltb-false, not-true, not-false}
 use Rattle.ranges.specs.Ranges.{mostStress}
 use Rattle.sheet.specs.Sound.{tangentOf}
+use Rattle.response.specs.declared.Flowed.{Flowed}
 use Rattle.response.specs.Response.{mostTrial}
+use Rattle.response.specs.SideFlows.{flowToward}
 use Rattle.response.proofs.Branches.{within-radius-elastic, past-radius-flows}
 use Rattle.response.proofs.kinematic.Statement.{statement}
 use Rattle.response.proofs.kinematic.Tie as tie
@@ -79,6 +82,20 @@ negative-is c =
     let size = c .before .before .before .before .before in
     c .negative .ensures ∙ ap (λ (g : Grain). isNeg (g .0)) (size .before .minus .ensures .0)
 
+-- The flow goes toward the side of the centre on which the trial lies.
+toward-is : (c : tie.After-toward) → let moved = c .before .before .before in
+    let size = moved .before .before .before .before .before .before .before .before .before in
+    let a = size .before .before .before .args in
+    c .toward .result
+    ≡ flowToward (isNeg (a .trial .0 -ℤ a .centre .0))
+    (record { stress = c .before .plus2 .result; variable = moved .plus .result; tangent = modulus (tangentOf (a .t1) 0) })
+toward-is c =
+    let moved = c .before .before .before in
+    let size = moved .before .before .before .before .before .before .before .before .before in
+    let a = size .before .before .before .args in
+    let flowed : Flowed = record { stress = c .before .plus2 .result; variable = moved .plus .result; tangent = modulus (tangentOf (a .t1) 0) } in
+    c .toward .ensures ∙ ap (λ (g : Grain). flowToward (isNeg (g .0)) flowed) (size .before .minus .ensures .0)
+
 returns-2 : tie.Need-returns-2
 returns-2 c =
     let plus2 = c .before in
@@ -93,7 +110,7 @@ returns-2 c =
     let a = size .before .before .before .args in
     let past = rw (size-is size) at (passed else) in
     rw (
-      c .toward .ensures,
+      toward-is c,
       plus2 .plus2 .ensures .0,
       of2 .of2 .ensures .0,
       plus .plus .ensures .0,
@@ -102,7 +119,6 @@ returns-2 c =
       minus2 .minus2 .ensures,
       negative-is negative,
       size-is size,
-      size .before .minus .ensures .0,
     )
     (past-radius-flows (a .modulus .0) (tangentOf (a .t1) 0) (a .t1 .«yield_stress» .0) (a .centre .0) (a .trial .0) past)
 
