@@ -85,7 +85,7 @@ static void print_mpa(int64_t grains)
     printf(" %s%" PRIu64 ".%09" PRIu64, grains < 0 ? "-" : "", magnitude / 1000000000u, magnitude % 1000000000u);
 }
 
-/* Which branch of the law gave a row. */
+/* The branch of a row in words. */
 static const char *branch_name(unsigned branch)
 {
     switch (branch) {

@@ -76,8 +76,8 @@
  *
  * Result row (SPEC 3.14): 16 bytes.
  *   yielded        1   1 if the pair passed a yield limit
- *   branch         3   which branch of the law gave the row: 0 elastic, 1 tension
- *                      flow, 2 compression flow
+ *   branch         3   of the law: 0 elastic, 1 flow in tension, 2 flow in
+ *                      compression
  *   tangent       20   E, or after a flow that of the segment reached
  *   stress        48 s
  *   plastic       56 s E times plastic strain, in grains

@@ -155,7 +155,7 @@ pub record PairSolved (h : Sheet) (sound : SheetSound h) (r : Rod) (p : Pair) (n
   -- E times plastic strain, in the state as in the row, changes by what the law took from the trial stress (SPEC 5.5).
   pub plastic : plasticAt h next -ℤ plasticAt h r ≡ trialOf h r p -ℤ next .stress .0
   pub row-plastic : row .plastic ≡ grain (plasticAt h next)
-  -- By the row's branch it stays, doesn't fall or doesn't rise (SPEC 7.7): a growth of less than a grain may not show.
+  -- By the row's branch it stays, doesn't fall or doesn't rise (SPEC 7.7); a change of less than a grain may not show.
   pub shown : Shows (row .branch) (plasticAt h r) (plasticAt h next)
 
 -- SPEC 9.13: any pair, accepted or not, of a rod that passes: 10 is decided over the stated rounding of the only solution.

@@ -37,7 +37,8 @@ Grows x = whole (pos 0) <F x .growth
 abbrev pub plasticChange : (trial : Frac) → Candidate → Frac
 plasticChange trial x = trial -F x .stress
 
--- SPEC 7.7: the branch that a change of plastic strain goes by: it stays in the elastic one, grows in tension, falls in compression.
+-- SPEC 7.7: the branch that a change of plastic strain goes by: it stays in the elastic one, grows in tension, falls in compression. Of a
+-- distance from a centre it says the side.
 abbrev pub Toward : Branch → (change : Frac) → Type 0
 Toward Elastic change = change ≈F whole (pos 0)
 Toward Tension change = whole (pos 0) <F change
