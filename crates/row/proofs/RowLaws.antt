@@ -7,8 +7,8 @@ use lib.Dec.{eqb}
 use lib.ListN.{length, take, getD}
 use Rattle.units.specs.Kinds.{modulus, grain}
 use Rattle.bits.specs.Field.{bitsOf}
-use Rattle.bits.specs.Layout.{Part, widthAt, offset, bitsAt, filled, widths, packed, bytesOf, put}
-use Rattle.branch.specs.Branches.{branchOf}
+use Rattle.bits.specs.Layout.{Part, widthAt, fieldAt, offset, bitsAt, filled, widths, packed, bytesOf, put}
+use Rattle.branch.specs.Branches.{branchNumber, branchOf}
 use Rattle.branch.proofs.BranchLaws.{branch-of-number, number-below-three}
 use Rattle.bits.proofs.SignLaws.{bits-below, signs, flag-below, flag-back}
 use Rattle.bits.proofs.PutLaws.{length-bytesOf, put-over}
@@ -60,6 +60,11 @@ module _ (r : Row) (fits : RowFits r) where
       rw (bytes-wider 1 plasticLength (r .plastic .0) (omega arith) (fits .plastic), place, put-over buffer (at + frontLength) (stressLength - 1) stress sign plastic long (omega arith))
       (put-over buffer at frontLength first [] (stress ++ plastic) (length-bytesOf frontLength (packed (take 3 (parts r)))) (omega arith) ∙ ap (put buffer at) bytes-are)
 
+  -- The three bits in its bytes are the number of its branch, so that none is above 2.
+  pub branch-bits : fieldAt rowLayout (rowBytes r) 1 ≡ branchNumber (r .branch)
+  unfolding rowBytes widths
+  branch-bits = read-back rowLength (parts r) fit refl 1 (omega arith)
+
   -- Reading what was written gives the row back.
   pub row-back : rowOf (rowBytes r) ≡ r
   unfolding rowBytes widths
@@ -67,7 +72,7 @@ module _ (r : Row) (fits : RowFits r) where
       let number = read-back rowLength (parts r) fit refl in
       let whole = whole-back rowLength (parts r) fit refl in
       let yielded = ap (λ (x : ℕ). eqb x 1) (number 0 (omega arith)) ∙ flag-back (r .yielded) in
-      let branch = ap branchOf (number 1 (omega arith)) ∙ branch-of-number (r .branch) in
+      let branch = ap branchOf branch-bits ∙ branch-of-number (r .branch) in
       let tangent = number 2 (omega arith) in
       let stress = whole 3 (omega arith) (widthAt rowLayout 3) (r .stress .0) (omega arith) (fits .stress) refl in
       let plastic = whole 4 (omega arith) (widthAt rowLayout 4) (r .plastic .0) (omega arith) (fits .plastic) refl in

@@ -39,7 +39,7 @@ const STRESS_LENGTH: usize = STRESS_WIDTH / 8;
 
 const LAST_WORD_AT: usize = ROW_LENGTH - 8;
 
-// `plastic` is E times plastic strain (SPEC 5.4).
+// `branch` says which way plastic strain went (SPEC 7.7), `plastic` is E times plastic strain (SPEC 5.4).
 pub struct Row {
     pub yielded: bool,
     pub branch: Branch,
