@@ -8,6 +8,7 @@ use Rattle.ranges.specs.Ranges.{around, mostStress, mostCount}
 use Rattle.ranges.proofs.RangeMagnitudes.{around-is}
 use Rattle.units.specs.declared.Magnitude.{Magnitude}
 use Rattle.bits.proofs.SignLaws.{leb-is-not-ltb}
+use Rattle.rod.specs.Variables.{firstRight, secondRight}
 use Rattle.rod.specs.Steps.{leavesRange}
 use Rattle.rod.proofs.step.leaves_range.Statement.{statement}
 use Rattle.rod.proofs.step.leaves_range.Tie as tie
@@ -21,6 +22,14 @@ stress-is c =
     let z = start c .args .response .stress .0 in
     c .at-most .ensures ∙ ap₂ (λ (m n : Magnitude). leb (m .0) (n .0)) (c .before .before .magnitude .ensures) (c .before .magnitude2 .ensures) ∙ sym (around-is mostStress z)
 
+first-is : (c : tie.After-first-right) → let a = start (c .before .before) .args in
+    c .first-right .result ≡ firstRight (a .rod .law) (a .response .first .0)
+first-is c = c .first-right .ensures
+
+second-is : (c : tie.After-second-right) → let a = start (c .before .before .before .before) .args in
+    c .second-right .result ≡ secondRight (a .rod .law) (a .response .second .0)
+second-is c = c .second-right .ensures
+
 returns : tie.Need-returns
 unfolding leavesRange
 returns c = rw (sym (stress-is (c .before)) ∙ not-true _ (c .if1 .taken))
@@ -29,14 +38,14 @@ returns-2 : tie.Need-returns-2
 unfolding leavesRange
 returns-2 c =
     let stress = c .before .before in
-    rw (sym (stress-is (stress .before)) ∙ not-false _ (stress .if1 .left), sym (c .before .first-right .ensures) ∙ not-true _ (c .if2 .taken))
+    rw (sym (stress-is (stress .before)) ∙ not-false _ (stress .if1 .left), sym (first-is (c .before)) ∙ not-true _ (c .if2 .taken))
 
 returns-3 : tie.Need-returns-3
 unfolding leavesRange
 returns-3 c =
     let first = c .before .before in
     let stress = first .before .before in
-    rw (sym (stress-is (stress .before)) ∙ not-false _ (stress .if1 .left), sym (first .before .first-right .ensures) ∙ not-false _ (first .if2 .left), sym (c .before .second-right .ensures) ∙ not-true _ (c .if3 .taken))
+    rw (sym (stress-is (stress .before)) ∙ not-false _ (stress .if1 .left), sym (first-is (first .before)) ∙ not-false _ (first .if2 .left), sym (second-is (c .before)) ∙ not-true _ (c .if3 .taken))
 
 -- a count passes the most exactly where it isn't at most that
 passes-most : (n : ℕ) → ltb mostCount n ≡ not (leb n mostCount)
@@ -53,7 +62,7 @@ returns-4 c =
     let first = second .before .before in
     let stress = first .before .before in
     let rod = start (stress .before) .args .rod in
-    rw (sym (stress-is (stress .before)) ∙ not-false _ (stress .if1 .left), sym (first .before .first-right .ensures) ∙ not-false _ (first .if2 .left), sym (second .before .second-right .ensures) ∙ not-false _ (second .if3 .left))
+    rw (sym (stress-is (stress .before)) ∙ not-false _ (stress .if1 .left), sym (first-is (first .before)) ∙ not-false _ (first .if2 .left), sym (second-is (second .before)) ∙ not-false _ (second .if3 .left))
     (passes-most (rod .pairs + 1))
 
 pub leaves-range-spec : {M : Type 1} → statement M
