@@ -171,9 +171,8 @@ enum tie_rod_numbers {
     TIE_ROD_RANGE = 10,       /* the new stress, centre, abscissa or n wouldn't fit its
                                  range (SPEC 8.5) */
     TIE_ROD_BOTH_LIMITS = 11, /* law 3: the trial stress lies beyond both limits. That
-                                 it is answered under this condition and no other is
-                                 proved; no sheet and state that pass are known to meet
-                                 it, and that none can is not proved yet (SPEC 8.7) */
+                                 no sheet and state which pass can meet it is proved
+                                 (SPEC 8.7) */
 
     /* For the caller. */
     TIE_ROD_BUFFER = 12,      /* rows below 16 bytes a pair, or next not 37 bytes; for

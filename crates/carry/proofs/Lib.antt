@@ -1,5 +1,6 @@
 pub mod RowFits
 pub mod PairAnswers
+pub mod WithoutBoth
 pub mod ReachedLaws
 pub mod Histories
 pub mod Walks

@@ -20,7 +20,7 @@ use Rattle.rod.specs.declared.step.Advance.{Advance}
 use Rattle.state.specs.States.{stateOf}
 use Rattle.rod.specs.Steps.{trialOf, outcomeAfter, advanceOf, stepRefusals}
 use Rattle.rod.specs.Accepted.{Accepted}
-use Rattle.rod.proofs.PairSolved.{pair-solved, pair-shows}
+use Rattle.rod.proofs.PairSolved.{pair-solved, pair-one-limit, pair-shows}
 use Rattle.rod.proofs.PlasticStrain.{plastic-change, unused-plastic}
 use Rattle.carry.specs.Walk.{pairTable, lastRod, rowsOf, History}
 use Rattle.carry.proofs.PairAnswers.{pair-passed}
@@ -145,6 +145,7 @@ all-solved sheet state standing =
         trials = trial-solved sheet state standing sound;
         keepings = keeping-solved sheet state standing sound;
         range = λ pair. range-decided sound (stateOf state) pair (passes .accepted);
+        one-limit = pair-one-limit (passes .accepted);
         unused = unused-plastic (sheetOf sheet);
       },
     )

@@ -11,3 +11,4 @@ pub mod LoneRods
 pub mod SectionAnswers
 pub mod SectionLists
 pub mod Demands
+pub mod WithoutBoth

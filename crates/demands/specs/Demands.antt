@@ -10,6 +10,7 @@ use lib.ListN.{length, getD, drop}
 use lib.IntN.{pos, _-ℤ_}
 use Rattle.refusals.specs.Table.{Refusal, refusal, NoneApplies, Given, Follows, numbersOf}
 use Rattle.units.specs.Kinds.{grain}
+use Rattle.fractions.specs.Fraction.{Frac, whole}
 use Rattle.pair.specs.declared.Pair.{Pair}
 use Rattle.pair.specs.Pairs.{pairOf, pairLength}
 use Rattle.row.specs.declared.Row.{Row}
@@ -18,6 +19,7 @@ use Rattle.sheet.specs.declared.Sheet.{Sheet}
 use Rattle.sheet.specs.Sheets.{sheetOf, sheetRefusals}
 use Rattle.sheet.specs.Sound.{SheetSound}
 use Rattle.response.specs.Response.{Outcome}
+use Rattle.response.specs.Candidates.{PassesTension, PassesCompression}
 use Rattle.response.specs.Solved.{Solved, Shows}
 use Rattle.rod.specs.declared.Rod.{Rod}
 use Rattle.rod.specs.declared.step.Advance.{Advance}
@@ -196,5 +198,8 @@ pub record SolvedFrom (sheet state : List ℕ) (sound : SheetSound (sheetOf shee
   pub keepings : (t : Trial) (offered next : List ℕ) → let kept = keepLeaves (trialLeaves sheet state t .bytes) offered next in
       kept .number ≡ 0 → TrialSolved sheet sound state t (kept .next)
   pub range : (pair : List ℕ) → RangeDecided (sheetOf sheet) sound (stateOf state) pair
+  -- SPEC 6.6: whatever the trial, whole or not, it doesn't pass both limits
+  pub one-limit : (trial : Frac) → let h = sheetOf sheet in let first = whole (stateOf state .first .0) in let second = whole (stateOf state .second .0) in
+      PassesTension h sound (h .law) trial first second → PassesCompression h sound (h .law) trial first second → ⊥
   -- An unused rod has no plastic strain (SPEC 5.6).
   pub unused : plasticAt (sheetOf sheet) (unusedOf (sheetOf sheet)) ≡ pos 0

@@ -7,3 +7,4 @@ pub mod RoomLaws
 pub mod CutLaws
 pub mod ThirdRow
 pub mod EarlyLaws
+pub mod WithoutBoth

@@ -1,5 +1,6 @@
--- SPEC 6.7, 6.8, over fractions: in a sheet that passes, from abscissas at or above their yields, the closed form meets the conditions of
--- the law, every candidate that does is the same, and p grows exactly where the trial passes a limit. Used of the stored rod and of the bar.
+-- SPEC 6.6 to 6.8, over fractions: in a sheet that passes, from abscissas at or above their yields, the closed form meets the conditions of
+-- the law, every candidate that does is the same, p grows exactly where the trial passes a limit, and no trial passes both. Used of the
+-- stored rod and of the bar.
 use mathlib.Core.Path.{_≡_}
 use mathlib.Core.Logic.{_⊎_, ⊎-map, _↔_, Iff·symm, Iff·trans}
 use native.Mathlib.Omega.{arith}
@@ -17,12 +18,13 @@ use Rattle.flow.specs.Side.{Side, accumulated, Hardens}
 use Rattle.flow.specs.Conditions as conditions
 use Rattle.flow.specs.Solution.{isotropic, kinematic, asymmetric}
 use Rattle.flow.proofs.Curves.{curve-hardens}
-use Rattle.flow.proofs.OneSide.{accumulated-same, growth-not-negative}
+use Rattle.flow.proofs.OneSide.{accumulated-same, growth-not-negative, limit-positive}
 use Rattle.flow.proofs.Isotropic.{isotropic-solves, isotropic-unique, isotropic-grows}
 use Rattle.flow.proofs.Kinematic.{kinematic-solves, kinematic-unique, kinematic-grows}
 use Rattle.flow.proofs.Asymmetric.{asymmetric-solves, asymmetric-unique, asymmetric-grows}
-use Rattle.response.specs.Candidates.{Candidate, SameCandidate, Grows, growthOn, radius, tensionSide, compressionSide, IsotropicMeets, MeetsUnder, Passes}
+use Rattle.response.specs.Candidates.{Candidate, SameCandidate, Grows, growthOn, radius, tensionSide, compressionSide, IsotropicMeets, MeetsUnder, PassesTension, PassesCompression, Passes}
 use Rattle.response.proofs.SoundSides.{sound-passes}
+use Rattle.response.proofs.Passing.{passes-one-limit}
 
 -- The growth on a side is one function of the number.
 growth-same : {side : Side} → Hardens side → (A : Frac) {x y : Frac} → x ≈F y → growthOn side A x ≈F growthOn side A y
@@ -146,3 +148,12 @@ module _ (h : Sheet) (sound : SheetSound h) where
   grows-passes Asymmetric is trial A B x (past, past′) (m, g) =
       let grown = asymmetric-grows tension-hardens (compression-hardens is) past past′ m in
       Iff·trans (Iff·symm (sides-grow m g)) (either-same (grown .0) (grown .1))
+
+  -- Every limit lies above nought, so that no trial passes both of a law.
+  pub one-limit : (law : Law) → h .law ≡ law → (trial first second : Frac) → PastUnder law first second
+      → PassesTension h sound law trial first second → ¬ PassesCompression h sound law trial first second
+  one-limit IsotropicLine is trial A second past = let high = limit-positive tension-hardens past in passes-one-limit high high
+  one-limit IsotropicCurve is trial A second past = let high = limit-positive tension-hardens past in passes-one-limit high high
+  one-limit Kinematic is trial X second past = passes-one-limit radius-positive radius-positive
+  one-limit Asymmetric is trial A B (past, past′) =
+      passes-one-limit (limit-positive tension-hardens past) (limit-positive (compression-hardens is) past′)

@@ -31,7 +31,7 @@ use Rattle.flow.proofs.AsymmetricRounding.{asymmetric-rounded, asymmetric-round
 use Rattle.response.specs.Response.{Outcome, flowBranch, isotropicMoved, kinematicMoved, inFirst, asymmetricOutcome, outcomeUnder, outcomeOf}
 use Rattle.response.specs.Candidates.{Candidate, Grows, plasticChange, Toward, tensionSide, compressionSide, MeetsUnder, Passes, PassesTension, PassesCompression}
 use Rattle.response.specs.Solved.{RoundsUnder, SegmentTangent, TangentTension, TangentCompression, Meets, Solved, PastYield, AbscissasPast}
-use Rattle.response.proofs.Candidates.{PastUnder, tension-hardens, compression-hardens, radius-positive, solutionUnder, solution-meets, meets-same, grows-passes, sides-grow}
+use Rattle.response.proofs.Candidates.{PastUnder, tension-hardens, compression-hardens, radius-positive, solutionUnder, solution-meets, meets-same, grows-passes, sides-grow, one-limit}
 use Rattle.response.proofs.Places.{isotropic-branch}
 use Rattle.response.proofs.MovedTangent.{branch-marks, branch-is, tangent-still, tangent-of-segment}
 use Rattle.response.proofs.Passing.{branch-passes}
@@ -242,3 +242,9 @@ module _ (h : Sheet) (sound : SheetSound h) where
 pub law-solved : (h : Sheet) (sound : SheetSound h) (trial first second : ℤ) → AbscissasPast (h .law) h first second
     → Solved h sound (h .law) trial first second (outcomeOf h first second trial)
 law-solved h sound trial first second past = solved-under h sound (h .law) refl trial first second past
+
+-- SPEC 6.6: no trial, whole or not, passes both limits.
+pub law-one-limit : (h : Sheet) (sound : SheetSound h) (trial : Frac) (first second : ℤ) → AbscissasPast (h .law) h first second
+    → PassesTension h sound (h .law) trial (whole first) (whole second) → ¬ PassesCompression h sound (h .law) trial (whole first) (whole second)
+law-one-limit h sound trial first second past =
+    one-limit h sound (h .law) refl trial (whole first) (whole second) (past-under h sound (h .law) first second past)

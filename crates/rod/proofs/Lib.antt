@@ -1,4 +1,5 @@
 pub mod WithinLimitLaws
+pub mod BothLimits
 pub mod RangeFacts
 pub mod ThermalFacts
 pub mod VariableLaws

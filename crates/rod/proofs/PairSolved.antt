@@ -1,11 +1,13 @@
 -- SPEC 6.7, 7.1, demand 2 for one pair: for every sheet, state and pair that pass, whether a history leads there or not, what the pair
 -- leaves is the rounding of the one solution that the conditions have, yielded exactly where p grew, with the law's branch and tangent.
+-- No trial passes both limits of such a state (SPEC 6.6).
 use mathlib.Core.Path.{_≡_, refl, ap}
 use mathlib.Core.Bool.{true, false≢true}
 use native.Mathlib.Omega.{arith}
 use borrow.Author.Tests.{leb-true}
 use lib.Dec.{eqb}
 use lib.IntN.{ℤ, pos, negsuc, _-ℤ_}
+use Rattle.fractions.specs.Fraction.{Frac, whole}
 use Rattle.fractions.proofs.UpDown.{up, dn, equal-parts, le-parts, le-of-parts, sub-parts-ℤ}
 use Rattle.branch.specs.declared.Branch.{Branch}
 use Rattle.branch.specs.declared.Branch.the-variants.{Elastic, Tension, Compression}
@@ -16,8 +18,9 @@ use Rattle.law.specs.Laws.{numberOf}
 use Rattle.curve.specs.declared.Side.{Side}
 use Rattle.pair.specs.declared.Pair.{Pair}
 use Rattle.sheet.specs.declared.Sheet.{Sheet}
+use Rattle.response.specs.Candidates.{PassesTension, PassesCompression}
 use Rattle.response.specs.Solved.{Solved, Shows, PastYield, AbscissasPast}
-use Rattle.response.proofs.Laws.{law-solved}
+use Rattle.response.proofs.Laws.{law-solved, law-one-limit}
 use Rattle.response.proofs.StoredWays.{law-shows}
 use Rattle.rod.specs.declared.Rod.{Rod}
 use Rattle.rod.specs.Against.{pastYield, isotropicBelongs, asymmetricBelongs, belongsBy, belongs}
@@ -50,6 +53,12 @@ past-of {h} {r} accepted = abscissas-past (h .law) h r (both-hold (eqb (numberOf
 pub pair-solved : {h : Sheet} {r : Rod} (accepted : Accepted h r) (p : Pair)
     → Solved h (accepted .sound) (h .law) (trialOf h r p) (r .first .0) (r .second .0) (outcomeAfter h r p)
 pair-solved {h} {r} accepted p = law-solved h (accepted .sound) (trialOf h r p) (r .first .0) (r .second .0) (past-of accepted)
+
+-- Whatever the trial, a state that passes has at most one limit that it passes.
+pub pair-one-limit : {h : Sheet} {r : Rod} (accepted : Accepted h r) (trial : Frac)
+    → PassesTension h (accepted .sound) (h .law) trial (whole (r .first .0)) (whole (r .second .0))
+    → ¬ PassesCompression h (accepted .sound) (h .law) trial (whole (r .first .0)) (whole (r .second .0))
+pair-one-limit {h} {r} accepted trial = law-one-limit h (accepted .sound) trial (r .first .0) (r .second .0) (past-of accepted)
 
 -- Two differences that are the same show the same.
 same-shows : (b : Branch) (x y s t : ℤ) → y -ℤ x ≡ t -ℤ s → Shows b s t → Shows b x y
