@@ -1,6 +1,5 @@
 pub mod RowFits
 pub mod PairAnswers
-pub mod WithoutBoth
 pub mod ReachedLaws
 pub mod Histories
 pub mod Walks

@@ -66,7 +66,7 @@ impl Reached {
         }
     }
 
-    // Tries a pair: 9, 11, 10 in that order, or the rod carried on.
+    // Tries a pair: 9, then 10, or the rod carried on.
     pub fn trial(self, sheet: Sheet, pair: Pair) -> Tried
         requires { ⌜ Stands sheet self × PairAccepted pair ⌝ }
         ensures { λ r. ⌜ triedMeaning r ≡ withReached sheet (firstOf (stepRefusals sheet (self .rod) pair) (advanceOf sheet (self .rod) pair)) ⌝ }
@@ -93,7 +93,6 @@ impl Reached {
                 })
             }
             Stepped::StrainLeaves => Tried::Refused(9),
-            Stepped::BothFlow => Tried::Refused(11),
             Stepped::OutOfRange => Tried::Refused(10),
         }
     }

@@ -342,7 +342,7 @@ module _ (sheet state : List ℕ) (c : Call) where
       by-kind single = refl
       by-kind run = refl
 
-  pair-order : (q : Rod) (pair : List ℕ) → numbersOf (pairTable h q pair) ≡ 8 ∷ 9 ∷ 11 ∷ 10 ∷ []
+  pair-order : (q : Rod) (pair : List ℕ) → numbersOf (pairTable h q pair) ≡ 8 ∷ 9 ∷ 10 ∷ []
   unfolding pairTable pairRefusals stepRefusals
   pair-order q pair = refl
 

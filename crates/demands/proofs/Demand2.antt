@@ -63,7 +63,7 @@ module _ {h : Sheet} (sound : SheetSound h) where
       record {
         outcome = outcomeAfter h r (pairOf pair);
         solved = outcome-solved r (pairOf pair) a;
-        before = take 3 (pairTable h r pair);
+        before = take 2 (pairTable h r pair);
         line = refl;
       }
 

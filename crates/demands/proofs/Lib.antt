@@ -11,4 +11,3 @@ pub mod LoneRods
 pub mod SectionAnswers
 pub mod SectionLists
 pub mod Demands
-pub mod WithoutBoth

@@ -239,7 +239,7 @@ module _ (sheet : List ℕ) (c : Change) (ms : List Member) where
       let behind = (stateFieldRefusals (m .state) ++ againstRefusals h (stateOf (m .state))) ++ (refusal 8 (not (pairInRange (memberPair c m))) ∷ stepRefusals h (stateOf (m .state)) (memberPair c m)) in
       let e : firstOf behind v ≡ refused 4 = rw (eq-eqb (length (m .state)) stateLength long) at (given-refused (memberTable h c m) v g) in
       answer-number (λ (n : ℕ). n ≡ 4 → ⊥) behind v
-      ((λ z. omega (arith, z)), ((λ z. omega (arith, z)), ((λ z. omega (arith, z)), ((λ z. omega (arith, z)), ((λ z. omega (arith, z)), ((λ z. omega (arith, z)), tt)))))) e refl
+      ((λ z. omega (arith, z)), ((λ z. omega (arith, z)), ((λ z. omega (arith, z)), ((λ z. omega (arith, z)), ((λ z. omega (arith, z)), tt))))) e refl
 
   pub section-answered : SectionAnswered sheet c ms
   unfolding sectionRefusals sheetRefusals sheetFieldRefusals memberTable stateRefusals stateFieldRefusals againstRefusals stepRefusals

@@ -100,7 +100,7 @@ pub record Written (r : Rod) (c : Call) (accepted : ℕ) (advances : List Advanc
 pub record CallAnswered (sheet state : List ℕ) (c : Call) : Type 0 where
   -- the lines stand in the order of SPEC 8.2
   pub order : numbersOf (standingRefusals sheet state ++ callRefusals c) ≡ 1 ∷ 2 ∷ 3 ∷ 13 ∷ 4 ∷ 5 ∷ 6 ∷ 7 ∷ 12 ∷ []
-  pub pair-order : (r : Rod) (pair : List ℕ) → numbersOf (pairTable (sheetOf sheet) r pair) ≡ 8 ∷ 9 ∷ 11 ∷ 10 ∷ []
+  pub pair-order : (r : Rod) (pair : List ℕ) → numbersOf (pairTable (sheetOf sheet) r pair) ≡ 8 ∷ 9 ∷ 10 ∷ []
   -- a number and a place are answered exactly where there is a reason for them
   pub exactly : (number place : ℕ)
       → ((callLeaves sheet state c .reply .number ≡ number) × (callLeaves sheet state c .reply .place ≡ place)) ↔ Reason sheet state c number place

@@ -91,7 +91,7 @@ module _ (sheet : List ℕ) (c : Change) (members : List Member) where
 -- SPEC 15.8: a section's answer is that of the tables, and all members move or none does.
 pub record SectionAnswered (sheet : List ℕ) (c : Change) (members : List Member) : Type 0 where
   pub order : numbersOf (sectionRefusals sheet c members) ≡ 1 ∷ 2 ∷ 3 ∷ 13 ∷ 14 ∷ []
-  pub member-order : (m : Member) → numbersOf (memberTable (sheetOf sheet) c m) ≡ 4 ∷ 5 ∷ 6 ∷ 8 ∷ 9 ∷ 11 ∷ 10 ∷ []
+  pub member-order : (m : Member) → numbersOf (memberTable (sheetOf sheet) c m) ≡ 4 ∷ 5 ∷ 6 ∷ 8 ∷ 9 ∷ 10 ∷ []
   -- a number and a place are answered exactly where there is a reason for them
   pub exactly : (number place : ℕ)
       → ((sectionLeaves sheet c members .reply .number ≡ number) × (sectionLeaves sheet c members .reply .place ≡ place))

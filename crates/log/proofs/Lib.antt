@@ -7,4 +7,3 @@ pub mod RoomLaws
 pub mod CutLaws
 pub mod ThirdRow
 pub mod EarlyLaws
-pub mod WithoutBoth

@@ -1,5 +1,4 @@
 pub mod WithinLimitLaws
-pub mod BothLimits
 pub mod RangeFacts
 pub mod ThermalFacts
 pub mod VariableLaws

@@ -1,14 +1,12 @@
--- One pair (SPEC 5.2 to 5.5, 7.9, 7.10) with 9, 11 and 10 (SPEC 8.2, 8.5), cited by carry, accuracy and the demands; definitions only,
+-- One pair (SPEC 5.2 to 5.5, 7.9, 7.10) with 9 and 10 (SPEC 8.2, 8.5), cited by carry, accuracy and the demands; definitions only,
 -- nothing is assumed.
 use Prim.Native.Nat.{_+_}
 use mathlib.Core.Bool.{Bool, not, _&&_}
 use mathlib.Core.List.{List, [], _∷_}
-use lib.IntN.{ℤ, pos, negℤ, natAbs, _+ℤ_, _-ℤ_, _*ℤ_}
+use lib.IntN.{ℤ, pos, _+ℤ_, _-ℤ_, _*ℤ_}
 use lib.Dec.{leb}
 use Rattle.refusals.specs.Table.{Refusal, refusal, Answer, passes, refused}
 use Rattle.ranges.specs.Ranges.{around, mostStrain, mostStress, mostCount}
-use Rattle.law.specs.declared.Law.{Law}
-use Rattle.law.specs.Laws.{hasSecond}
 use Rattle.units.specs.Kinds.{nano, grain, modulus}
 use Rattle.bits.specs.Field.{flag}
 use Rattle.pair.specs.declared.Pair.{Pair}
@@ -20,8 +18,7 @@ use Rattle.rod.specs.declared.Rod.{Rod}
 use Rattle.rod.specs.declared.step.ThermalStrains.{ThermalStrains}
 use Rattle.rod.specs.declared.step.Advance.{Advance}
 use Rattle.rod.specs.declared.step.Stepped.{Stepped}
-use Rattle.rod.specs.declared.step.Stepped.the-variants.{Advanced, StrainLeaves, BothFlow, OutOfRange}
-use Rattle.rod.specs.WithinLimit.{withinLimit}
+use Rattle.rod.specs.declared.step.Stepped.the-variants.{Advanced, StrainLeaves, OutOfRange}
 use Rattle.rod.specs.Variables.{firstRight, secondRight}
 
 -- SPEC 5.2: the strain after a pair, greater by the pair's change.
@@ -91,13 +88,6 @@ advanceOf h r p = advanceBy h r p (outcomeAfter h r p)
 unfoldable pub strainLeaves : Rod → Pair → Bool
 strainLeaves r p = not (around mostStrain (strainAfter r p))
 
--- SPEC 8.2: 11 where under law 3 a trial is past both limits; T isn't rounded (SPEC 4.5).
-abbrev pub bothPassedBy : Law → Sheet → Rod → ℤ → Bool
-bothPassedBy law h r trial =
-    hasSecond law
-    && not (withinLimit (h .modulus .0) (h .tension) (natAbs (r .first .0)) trial)
-    && not (withinLimit (h .modulus .0) (h .compression) (natAbs (r .second .0)) (negℤ trial))
-
 -- SPEC 8.5: 10 where the new stress, a new variable or n + 1 isn't in its range.
 unfoldable pub leavesRange : Rod → (stress first second : ℤ) → Bool
 leavesRange r stress first second =
@@ -107,7 +97,6 @@ leavesRange r stress first second =
 unfoldable pub stepRefusals : Sheet → Rod → Pair → List Refusal
 stepRefusals h r p =
     refusal 9 (strainLeaves r p)
-    ∷ refusal 11 (bothPassedBy (h .law) h r (trialOf h r p))
     ∷ refusal 10 (let o = outcomeAfter h r p in leavesRange r (o .stress) (o .first) (o .second))
     ∷ []
 
@@ -115,5 +104,4 @@ stepRefusals h r p =
 abbrev pub stepMeaning : Stepped → Answer Advance
 stepMeaning (Advanced a) = passes a
 stepMeaning StrainLeaves = refused 9
-stepMeaning BothFlow = refused 11
 stepMeaning OutOfRange = refused 10

@@ -17,7 +17,7 @@ ghost use Rattle.rod.specs.InRange.{rodInRange};
 ghost use Rattle.rod.specs.Against.{asymmetricBelongs, belongs, isotropicBelongs, kinematicBelongs, noSecond};
 
 // Whether a stress doesn't pass a yield limit. A stress away from the limit's side, of the other sign, never does.
-pub fn within_limit(limit: Magnitude, away: bool, size: Magnitude) -> bool
+fn within_limit(limit: Magnitude, away: bool, size: Magnitude) -> bool
     ensures { λ r. ⌜ r ≡ cond away true (leb (size .0) (limit .0)) ⌝ }
 {
     if away {

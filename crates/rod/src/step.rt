@@ -1,8 +1,6 @@
 // One pair (SPEC 7.9, 7.10): a rod is carried from state to state.
 use crate::Rod;
-use crate::against;
 use crate::variables;
-use law::Law;
 use pair::Pair;
 use response::Limits;
 use response::Response;
@@ -19,7 +17,7 @@ ghost use Rattle.ranges.specs.Ranges.{mostCount, mostStress};
 ghost use Rattle.units.specs.Kinds.{grain};
 ghost use Rattle.response.specs.Response.{mostTrial, responseMeaning};
 ghost use Rattle.response.specs.Limits.{limitsOf};
-ghost use Rattle.rod.specs.Steps.{advanceBy, advanceOf, bothPassedBy, leavesRange, stepMeaning, stepRefusals, thermalStrainsOf, trialOf};
+ghost use Rattle.rod.specs.Steps.{advanceBy, advanceOf, leavesRange, stepMeaning, stepRefusals, thermalStrainsOf, trialOf};
 ghost use Rattle.rod.specs.Accepted.{Accepted, PairAccepted};
 
 // The thermal strains before and after a pair (SPEC 5.1). Each is found once and goes along with the rod.
@@ -38,28 +36,7 @@ pub struct Advance {
 pub enum Stepped {
     Advanced(Advance),
     StrainLeaves,
-    BothFlow,
     OutOfRange,
-}
-
-// Whether under law 3 the trial is past both limits (11).
-fn both_passed(rod: Rod, sheet: Sheet, limits: Limits, trial: Grain) -> bool
-    requires { ⌜ 0 < sheet .modulus .0 ⌝ }
-    requires limits { ⌜ limits ≡ limitsOf sheet (rod .first .0) (rod .second .0) ⌝ }
-    ensures { λ r. ⌜ r ≡ bothPassedBy (sheet .law) sheet rod (trial .0) ⌝ }
-{
-    let law = sheet.law;
-    if !law.has_second() {
-        return false;
-    }
-    let negative = trial.negative();
-    let size = trial.magnitude();
-    let tension = limits.first;
-    if against::within_limit(tension, negative, size) {
-        return false;
-    }
-    let compression = limits.second;
-    !against::within_limit(compression, !negative, size)
 }
 
 // Whether a stress, a variable or the count of pairs would leave its range (SPEC 8.5).
@@ -154,7 +131,7 @@ impl Rod {
         }
     }
 
-    // Carries the rod over one pair, or refuses it: 9, 11, 10 in that order. The limits are those at its variables, the thermal strains
+    // Carries the rod over one pair, or refuses it: 9, then 10. The limits are those at its variables, the thermal strains
     // those at its temperature and the pair's.
     pub fn step(self, sheet: Sheet, limits: Limits, thermals: ThermalStrains, pair: Pair) -> Stepped
         requires { ⌜ Accepted sheet self × PairAccepted pair ⌝ }
@@ -169,9 +146,6 @@ impl Rod {
             return Stepped::StrainLeaves;
         }
         let trial = self.trial_stress(sheet, pair, thermals);
-        if both_passed(self, sheet, limits, trial) {
-            return Stepped::BothFlow;
-        }
         let first = self.first;
         let second = self.second;
         let negative = trial.negative();

@@ -26,4 +26,4 @@ pub member-numbered : (h : Sheet) (c : Change) (m : Member) {n : ℕ} → member
 unfolding memberAnswer memberTable stateRefusals stateFieldRefusals againstRefusals stepRefusals
 member-numbered h c m e =
     answer-number Numbered (memberTable h c m) (advanceOf h (stateOf (m .state)) (memberPair c m))
-    (line 4 (omega arith) (omega arith), (line 5 (omega arith) (omega arith), (line 6 (omega arith) (omega arith), (line 8 (omega arith) (omega arith), (line 9 (omega arith) (omega arith), (line 11 (omega arith) (omega arith), (line 10 (omega arith) (omega arith), tt))))))) e
+    (line 4 (omega arith) (omega arith), (line 5 (omega arith) (omega arith), (line 6 (omega arith) (omega arith), (line 8 (omega arith) (omega arith), (line 9 (omega arith) (omega arith), (line 10 (omega arith) (omega arith), tt)))))) e

@@ -53,7 +53,7 @@ abbrev pub memberPair : Change → Member → Pair
 memberPair c m = record { change = nano (c .mean .0 +ℤ c .curvature .0 *ℤ m .offset); temperature = c .temperature }
 
 -- SPEC 15.4: the lines of a member, which are those of a lone rod with this state and this pair: 4, 5 and 6 of the state, 8 of the pair,
--- 9, 11 and 10 of the step.
+-- 9 and 10 of the step.
 unfoldable pub memberTable : Sheet → Change → Member → List Refusal
 memberTable h c m =
     holderRefusals h (m .state)

@@ -43,7 +43,7 @@ fn pair_at(change: Change, member: Member) -> Pair
     }
 }
 
-// Tries a rod as a single pair does (SPEC 15.4): 5 and 6 of its state, 8 of the pair, 9, 11 and 10 of the step.
+// Tries a rod as a single pair does (SPEC 15.4): 5 and 6 of its state, 8 of the pair, 9 and 10 of the step.
 fn tried(movement: Movement, member: Member) -> Tried
     requires { ⌜ MovementRight movement × (memberRight member ≡ true) ⌝ }
     ensures { λ r. ⌜ triedMeaning r ≡ withReached (movement .sheet) (memberAnswer (movement .sheet) (movement .change) member) ⌝ }

@@ -54,9 +54,6 @@ returns-2 c = refused-as (c .before .before) (ap stepMeaning (c .enum-told .give
 returns-3 : tie.Need-returns-3
 returns-3 c = refused-as (c .before .before) (ap stepMeaning (c .enum-told2 .given .1))
 
-returns-4 : tie.Need-returns-4
-returns-4 c = refused-as (c .before .before) (ap stepMeaning (c .enum-told3 .given .1))
-
 pub trial-spec : {M : Type 1} → statement M
 trial-spec =
     tie.close
@@ -67,8 +64,6 @@ trial-spec =
     (λ c κs. search needs)
     (λ c. search needs)
     (λ c. search needs)
-    (λ c. search needs)
     returns
     returns-2
-    returns-3
-    returns-4)
+    returns-3)

@@ -14,22 +14,23 @@ use Rattle.units.specs.declared.Length.{Length}
 use Rattle.units.specs.declared.Nano.{Nano}
 use Rattle.pair.proofs.PairLaws.{pair-facts}
 use Rattle.response.specs.Response.{Outcome, Answerable, outcomeOf, responseMeaning}
-use Rattle.rod.specs.Steps.{strainAfter, trialOf, outcomeAfter, strainLeaves, bothPassedBy, leavesRange, stepRefusals, advanceBy, advanceOf}
+use Rattle.rod.specs.Steps.{strainAfter, trialOf, outcomeAfter, strainLeaves, leavesRange, stepRefusals, advanceBy, advanceOf}
 use Rattle.rod.specs.Variables.{firstRight, secondRight}
 use Rattle.rod.proofs.RangeFacts.{ranged}
 use Rattle.rod.proofs.StepLaws.{variables-right, same-law, stays}
 use Rattle.rod.proofs.Rod.step.Statement.{statement}
 use Rattle.rod.proofs.Rod.step.Tie as tie
 
--- from each test to the function's start
+-- from the test of the strain, and from the trial stress, to the function's start
 abbrev start : tie.After-at-most → tie.Start
 start c = c .before .before .before .before
 
-abbrev strain-test : tie.After-both-passed → tie.After-at-most
-strain-test c = c .before .before .before
+abbrev begun : tie.After-trial-stress → tie.Start
+begun c = start (c .before .before)
 
-abbrev both-test : tie.After-respond → tie.After-both-passed
-both-test c = c .before .before .before .before .before
+-- from the law's answer to the trial stress
+abbrev trial-of : tie.After-respond → tie.After-trial-stress
+trial-of c = c .before .before .before .before
 
 plus-requires : tie.Need-plus-requires
 plus-requires c κs =
@@ -51,21 +52,10 @@ strain-stays : (c : tie.Else1) → let a = start (c .before) .args in strainLeav
 unfolding strainLeaves
 strain-stays c = ap not (sym (strain-is (c .before)) ∙ not-false _ (c .if1 .left))
 
-both-is : (c : tie.After-both-passed) → let a = start (strain-test c) .args in
-    c .both-passed .result ≡ bothPassedBy (a .sheet .law) (a .sheet) (a .self) (trialOf (a .sheet) (a .self) (a .pair))
-both-is c =
-    let a = start (strain-test c) .args in
-    c .both-passed .ensures ∙ ap (λ (g : Grain). bothPassedBy (a .sheet .law) (a .sheet) (a .self) (g .0)) (c .before .trial-stress .ensures .0)
-
-returns-2 : tie.Need-returns-2
-unfolding firstOf stepRefusals
-returns-2 c = rw (strain-stays (c .before .before .before), sym (both-is (c .before)) ∙ c .if2 .taken)
-
 respond-requires : tie.Need-respond-requires
 respond-requires c κs =
-    let both = c .before .before .before .before in
-    let trial = both .before in
-    let s = start (strain-test both) in
+    let trial = c .before .before .before in
+    let s = begun trial in
     let rod = s .args .self in
     let sheet = s .args .sheet in
     let facts = ranged rod (s .pre .0 .0 .in-range) in
@@ -79,53 +69,47 @@ respond-requires c κs =
     (answerable, (s .pre .1 .0, c .negative .ensures))
 
 -- the law's answer is the outcome
-outcome-is : (c : tie.After-respond) → let a = start (strain-test (both-test c)) .args in
+outcome-is : (c : tie.After-respond) → let a = begun (trial-of c) .args in
     responseMeaning (c .respond .result) ≡ outcomeAfter (a .sheet) (a .self) (a .pair)
 outcome-is c =
-    let trial = both-test c .before in
-    let a = start (strain-test (both-test c)) .args in
+    let trial = trial-of c in
+    let a = begun trial .args in
     c .respond .ensures ∙ ap (λ (g : Grain). outcomeOf (a .sheet) (a .self .first .0) (a .self .second .0) (g .0)) (trial .trial-stress .ensures .0)
 
 leaves-range-requires : tie.Need-leaves-range-requires
-leaves-range-requires c κs = omega (arith, start (strain-test (both-test c)) .pre .0 .0 .counted)
+leaves-range-requires c κs = omega (arith, begun (trial-of c) .pre .0 .0 .counted)
 
 -- the range test, over the outcome
-leaves-is : (c : tie.After-leaves-range) → let a = start (strain-test (both-test (c .before))) .args in
+leaves-is : (c : tie.After-leaves-range) → let a = begun (trial-of (c .before)) .args in
     let o = outcomeAfter (a .sheet) (a .self) (a .pair) in
     c .leaves-range .result ≡ leavesRange (a .self) (o .stress) (o .first) (o .second)
 leaves-is c =
-    let a = start (strain-test (both-test (c .before))) .args in
+    let a = begun (trial-of (c .before)) .args in
     c .leaves-range .ensures ∙ ap (λ (o : Outcome). leavesRange (a .self) (o .stress) (o .first) (o .second)) (outcome-is (c .before))
 
--- past the tests of the strain and of both limits
-strain-past : (c : tie.After-respond) → let a = start (strain-test (both-test c)) .args in strainLeaves (a .self) (a .pair) ≡ false
-strain-past c = strain-stays (both-test c .before .before)
+-- past the test of the strain
+strain-past : (c : tie.After-respond) → let a = begun (trial-of c) .args in strainLeaves (a .self) (a .pair) ≡ false
+strain-past c = strain-stays (trial-of c .before)
 
-not-both : (c : tie.After-respond) → let a = start (strain-test (both-test c)) .args in
-    bothPassedBy (a .sheet .law) (a .sheet) (a .self) (trialOf (a .sheet) (a .self) (a .pair)) ≡ false
-not-both c = sym (both-is (both-test c)) ∙ c .before .before .before .before .if2 .left
-
-returns-3 : tie.Need-returns-3
+returns-2 : tie.Need-returns-2
 unfolding firstOf stepRefusals
-returns-3 c =
-    let respond = c .before .before in
-    rw (strain-past respond, not-both respond, sym (leaves-is (c .before)) ∙ c .if3 .taken)
+returns-2 c = rw (strain-past (c .before .before), sym (leaves-is (c .before)) ∙ c .if2 .taken)
 
 advance-requires : tie.Need-advance-requires
 advance-requires c κs =
     let respond = c .before .before in
-    let s = start (strain-test (both-test respond)) in
+    let s = begun (trial-of respond) in
     let o = respond .respond .result in
-    let kept = stays (s .args .self) (o .stress .0) (o .first .0) (o .second .0) (sym (c .before .leaves-range .ensures) ∙ c .if3 .left) in
+    let kept = stays (s .args .self) (o .stress .0) (o .first .0) (o .second .0) (sym (c .before .leaves-range .ensures) ∙ c .if2 .left) in
     (s .pre .0, (s .pre .1 .1, (kept .stress, kept .pairs)))
 
-returns-4 : tie.Need-returns-4
+returns-3 : tie.Need-returns-3
 unfolding firstOf stepRefusals advanceOf
-returns-4 c =
+returns-3 c =
     let last = c .before in
     let respond = last .before .before in
-    let a = start (strain-test (both-test respond)) .args in
-    rw (strain-past respond, not-both respond, sym (leaves-is (last .before)) ∙ last .if3 .left)
+    let a = begun (trial-of respond) .args in
+    rw (strain-past respond, sym (leaves-is (last .before)) ∙ last .if2 .left)
     (ap passes (c .advance .ensures ∙ ap (advanceBy (a .sheet) (a .self) (a .pair)) (outcome-is respond)))
 
 pub step-spec : {M : Type 1} → statement M
@@ -139,10 +123,8 @@ step-spec =
     returns
     (λ c κs. search needs)
     (λ c κs. search needs)
-    returns-2
-    (λ c κs. search needs)
     respond-requires
     leaves-range-requires
-    returns-3
+    returns-2
     advance-requires
-    returns-4)
+    returns-3)
