@@ -42,6 +42,7 @@ use Rattle.demands.specs.Lists.{acceptedBy, acceptedIn}
 use Rattle.demands.specs.Gradings.{GradingAnswered}
 use Rattle.demands.specs.Sections.{SectionAnswered}
 use Rattle.demands.specs.Demands.{Accepts, Reason, Untouched, Written, CallAnswered, Answered}
+use Rattle.demands.proofs.Withdrawn.{not-withdrawn}
 use Rattle.demands.proofs.Splits.{split-front, split-next}
 use Rattle.demands.proofs.TrialAnswers.{trial-answered, keeping-answered, anything-offered}
 
@@ -398,4 +399,5 @@ module _ (sheet state : List ℕ) where
         unused-order = unused-order;
         unused = first-follows (sheetRefusals sheet) (stateBytes (unusedOf (sheetOf sheet)));
         no-state = no-state;
+        not-withdrawn = not-withdrawn sheet state;
       }

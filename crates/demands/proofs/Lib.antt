@@ -1,5 +1,6 @@
 pub mod Splits
 pub mod TrialAnswers
+pub mod Withdrawn
 pub mod Demand1
 pub mod Accepted
 pub mod GradingAnswers

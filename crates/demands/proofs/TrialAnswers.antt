@@ -10,7 +10,7 @@ use borrow.Author.Tests.{eqb-true, eqb-false, eq-eqb, ne-eqb}
 use lib.Dec.{eqb}
 use lib.ListN.{length}
 use Rattle.refusals.specs.Table.{Refusal, Answer, passes, refused, firstOf, NoneApplies, Given, numbersOf}
-use Rattle.refusals.proofs.FirstLaws.{Numbered, line, both-hold, answer-number, refused-given, given-refused, none-passes, passes-none-applies, passes-anyhow}
+use Rattle.refusals.proofs.FirstLaws.{number-given, both-hold, refused-given, given-refused, none-passes, passes-none-applies, passes-anyhow}
 use Rattle.state.specs.States.{stateLength}
 use Rattle.trial.specs.Trials.{Trial, trialLeaves, nextIn, sameBytes, keepRefusals, Kept, kept, keepLeaves}
 use Rattle.trial.proofs.TrialLaws.{same-are, are-same, not-same, differ-not, trial-single, made-long, keep-made, keep-stops, keep-left, keep-handed}
@@ -25,7 +25,7 @@ module _ (trial offered next : List ℕ) where
 
   some-number : {n : ℕ} → firstOf table (nextIn trial) ≡ refused n → n ≡ 0 → ⊥
   unfolding keepRefusals
-  some-number e = answer-number Numbered table (nextIn trial) (line 12 (omega arith) (omega arith), (line 15 (omega arith) (omega arith), tt)) e .0
+  some-number e = number-given table (nextIn trial) refl e .0
 
   is-passed : {new : List ℕ} → firstOf table (nextIn trial) ≡ passes new → keepLeaves trial offered next ≡ kept 0 (nextIn trial)
   is-passed e = keep-handed trial offered next (passes-anyhow table (nextIn trial) (nextIn trial) e)

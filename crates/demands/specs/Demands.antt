@@ -8,7 +8,7 @@ use mathlib.Core.List.{List, [], _∷_, _++_}
 use mathlib.Core.Logic.{_⊎_, _↔_}
 use lib.ListN.{length, getD, drop}
 use lib.IntN.{pos, _-ℤ_}
-use Rattle.refusals.specs.Table.{Refusal, refusal, NoneApplies, Given, Follows, numbersOf}
+use Rattle.refusals.specs.Table.{Refusal, refusal, numbersOf, withdrawn, refused, NoneApplies, Given, Follows}
 use Rattle.units.specs.Kinds.{grain}
 use Rattle.fractions.specs.Fraction.{Frac, whole}
 use Rattle.pair.specs.declared.Pair.{Pair}
@@ -31,9 +31,10 @@ use Rattle.carry.specs.Walk.{pairTable, lastRod, rowsOf, rowsBytes, History}
 use Rattle.judge.specs.Standing.{standingRefusals}
 use Rattle.tie_rod.specs.Calls.{Call, pieces, pieceAt, countIn, callRefusals, Left, partOf, callLeaves, tangentTold, forecastAnswer, unusedAnswer, unusedLeft}
 use Rattle.trial.specs.Trials.{Trial, trialLeaves, keepLeaves}
-use Rattle.grade.specs.Grades.{Grading}
+use Rattle.grade.specs.Grades.{Grading, gradeOf}
 use Rattle.section.specs.declared.Member.{Member}
 use Rattle.section.specs.declared.Change.{Change}
+use Rattle.section.specs.Sections.{sectionLeaves}
 use Rattle.demands.specs.Lists.{stateAfter, acceptedIn, stateIn, rowIn, triedIn}
 use Rattle.demands.specs.Trials.{TrialAnswered, KeepingAnswered, AnythingOffered}
 use Rattle.demands.specs.Gradings.{GradingAnswered}
@@ -118,6 +119,18 @@ pub record CallAnswered (sheet state : List ℕ) (c : Call) : Type 0 where
   -- SPEC 9.4: a buffer for the new state that isn't as long as a state keeps its bytes, whatever the answer
   pub never : (length (c .next) ≡ stateLength → ⊥) → callLeaves sheet state c .next ≡ c .next
 
+-- ---- Demand 1: the number that was taken out
+
+-- SPEC 8.7: no entry answers it, whatever it is given: no call, no trial, no keeping, no grading, no section, no forecast, no unused rod.
+pub record NotWithdrawn (sheet state : List ℕ) : Type 0 where
+  pub calls : (c : Call) → callLeaves sheet state c .reply .number ≡ withdrawn → ⊥
+  pub trials : (t : Trial) → trialLeaves sheet state t .left .reply .number ≡ withdrawn → ⊥
+  pub keepings : (trial next : List ℕ) → keepLeaves trial state next .number ≡ withdrawn → ⊥
+  pub gradings : (g : Grading) → gradeOf sheet state g .number ≡ withdrawn → ⊥
+  pub sections : (c : Change) (members : List Member) → sectionLeaves sheet c members .reply .number ≡ withdrawn → ⊥
+  pub forecast : forecastAnswer sheet state ≡ refused withdrawn → ⊥
+  pub unused : unusedAnswer sheet ≡ refused withdrawn → ⊥
+
 -- ---- Demand 1 whole
 
 -- SPEC 9.11: every call, trial, keeping, grading, section, forecast and unused rod, for any bytes as sheet and as state.
@@ -140,6 +153,8 @@ pub record Answered (sheet state : List ℕ) : Type 0 where
   pub unused-order : numbersOf (sheetRefusals sheet) ≡ 1 ∷ 2 ∷ 3 ∷ 13 ∷ []
   pub unused : Follows (sheetRefusals sheet) (stateBytes (unusedOf (sheetOf sheet))) (unusedAnswer sheet)
   pub no-state : (n : ℕ) → Given (sheetRefusals sheet) n → unusedLeft (unusedAnswer sheet) ≡ zeroState
+  -- SPEC 8.7: none of them answers the number that was taken out
+  pub not-withdrawn : NotWithdrawn sheet state
 
 -- ---- Demand 2
 

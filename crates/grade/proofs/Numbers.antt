@@ -1,5 +1,6 @@
--- Number and place of a verdict (SPEC 17.6): a number is below 256, and a place is that of a pair in the list.
-use Prim.Native.Nat.{ℕ, _≤_, _<_}
+-- Number and place of a verdict (SPEC 8.7, 17.6): a number is below 256 and not the one that was taken out, and a place is that of a pair in
+-- the list.
+use Prim.Native.Nat.{ℕ, _≤_}
 use mathlib.Core.Path.{_≡_, refl, subst}
 use mathlib.Core.Bool.{Bool, true, false, cond}
 use mathlib.Core.List.{List}
@@ -7,7 +8,7 @@ use native.Mathlib.Omega.{arith}
 use lib.Dec.{eqb}
 use lib.ListN.{length}
 use Rattle.refusals.specs.Table.{Answer, passes, refused, firstOf}
-use Rattle.refusals.proofs.FirstLaws.{AllNumbers, numbers-join, Numbered, line, answer-number, both-pass, passes-given, passes-anyhow}
+use Rattle.refusals.proofs.FirstLaws.{AllNumbers, numbers-join, InUse, zero-in-use, Numbered, table-numbers, answer-number, both-pass, passes-given, passes-anyhow}
 use Rattle.ranges.specs.Ranges.{mostPairs}
 use Rattle.pair.specs.Pairs.{pairLength, listRefusals}
 use Rattle.sheet.specs.Sheets.{sheetOf}
@@ -17,21 +18,17 @@ use Rattle.judge.specs.Standing.{standingRefusals}
 use Rattle.tie_rod.specs.Calls.{run, countIn, pairsIn, placeOf}
 use Rattle.tie_rod.proofs.PieceLaws.{length-pieces}
 use Rattle.tie_rod.proofs.CallLaws.{list-counts}
-use Rattle.tie_rod.proofs.Numbers.{standing-numbers, walk-most, walk-place}
+use Rattle.tie_rod.proofs.Numbers.{standing-numbers, list-numbers, walk-in-use, walk-place}
 use Rattle.grade.specs.Grades.{Grading, firstOutside, Verdict, verdict, gradingRefusals, openingRefusals, verdictBy, verdictOn, gradeOf}
 
 pub record Small (v : Verdict) : Type 0 where
-  pub number : v .number < 256
+  pub number : InUse (v .number)
   pub place : v .place ≤ mostPairs
 
 module _ (g : Grading) where
-  pub list-numbers : AllNumbers Numbered (listRefusals (length (g .pairs)))
-  unfolding listRefusals
-  list-numbers = (line 7 (omega arith) (omega arith), tt)
-
   pub grading-numbers : AllNumbers Numbered (gradingRefusals g)
   unfolding gradingRefusals
-  grading-numbers = (line 16 (omega arith) (omega arith), (line 17 (omega arith) (omega arith), tt))
+  grading-numbers = table-numbers (gradingRefusals g) refl
 
   -- A number of the table,
   by-table : (row : ℕ) → Small (verdictBy (firstOf (gradingRefusals g) (verdict 0 0 row)))
@@ -39,10 +36,10 @@ module _ (g : Grading) where
     where
       by-answer : (x : Answer Verdict) → firstOf (gradingRefusals g) (verdict 0 0 row) ≡ x → Small (verdictBy x)
       by-answer (refused n) e = record { number = answer-number Numbered (gradingRefusals g) (verdict 0 0 row) grading-numbers e .1; place = omega arith }
-      by-answer (passes v) e = subst Small (passes-given (gradingRefusals g) (verdict 0 0 row) e) (record { number = omega arith; place = omega arith })
+      by-answer (passes v) e = subst Small (passes-given (gradingRefusals g) (verdict 0 0 row) e) (record { number = zero-in-use; place = omega arith })
 
   -- and one of the walk.
-  walked-small : (w : Walk) → w .number < 256 → placeOf w ≤ mostPairs → Small (verdictOn g w)
+  walked-small : (w : Walk) → InUse (w .number) → placeOf w ≤ mostPairs → Small (verdictOn g w)
   walked-small w number place = by-number (eqb (w .number) 0)
     where
       row : ℕ
@@ -66,7 +63,7 @@ grade-small sheet state g = by-opening (firstOf (openingRefusals sheet state g) 
     by-opening (refused n) e =
         record {
           number = answer-number Numbered (openingRefusals sheet state g) told
-              (numbers-join Numbered (standingRefusals sheet state) (listRefusals (length (g .pairs))) (standing-numbers sheet state) (list-numbers g)) e .1;
+              (numbers-join Numbered (standingRefusals sheet state) (listRefusals (length (g .pairs))) (standing-numbers sheet state) (list-numbers (length (g .pairs)))) e .1;
           place = omega arith;
         }
     by-opening (passes v) e =
@@ -75,5 +72,5 @@ grade-small sheet state g = by-opening (firstOf (openingRefusals sheet state g) 
         let few = list-counts run (length (g .pairs)) (passes-anyhow (listRefusals (length (g .pairs))) told count listed) .1 in
         let long : length (pairsIn (g .pairs)) ≡ count = length-pieces pairLength count (g .pairs) in
         subst Small (passes-given (openingRefusals sheet state g) told e)
-        (walked-small g walked (walk-most (sheetOf sheet) (stateOf state) (pairsIn (g .pairs)))
+        (walked-small g walked (walk-in-use (sheetOf sheet) (stateOf state) (pairsIn (g .pairs)))
         (omega (arith, walk-place (sheetOf sheet) (stateOf state) (pairsIn (g .pairs)), long, few)))

@@ -4,6 +4,7 @@ pub mod LineLaws
 pub mod PartLaws
 pub mod RunLaws
 pub mod RoomLaws
+pub mod Withdrawn
 pub mod CutLaws
 pub mod ThirdRow
 pub mod EarlyLaws

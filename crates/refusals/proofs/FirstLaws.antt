@@ -1,13 +1,13 @@
 -- What an answer says of the table that it comes from (SPEC 8.1).
 use Prim.Native.Nat.{ℕ, _<_}
 use mathlib.Core.Path.{_≡_, refl, sym, ap, _∙_}
-use mathlib.Core.Bool.{Bool, true, false, _&&_, _||_, false≢true, cond}
+use mathlib.Core.Bool.{Bool, true, false, not, _&&_, _||_, false≢true, true≢false, cond}
 use mathlib.Core.List.{List, [], _∷_, _++_, append-nil}
 use mathlib.Core.Logic.{inl, inr}
 use native.Mathlib.Omega.{arith}
-use borrow.Author.Tests.{eq-eqb, ne-eqb}
-use lib.Dec.{eqb}
-use Rattle.refusals.specs.Table.{Refusal, refusal, Answer, passes, refused, numbered, firstOf, NoneApplies, Given, Decided, Follows}
+use borrow.Author.Tests.{eq-eqb, ne-eqb, ltb-true}
+use lib.Dec.{eqb, ltb}
+use Rattle.refusals.specs.Table.{Refusal, refusal, numbersOf, withdrawn, Answer, passes, refused, numbered, firstOf, NoneApplies, Given, Decided, Follows}
 
 pub refused-is-not-passes : {A : Type 0} (n : ℕ) (x : A) → refused n ≡ passes x → ⊥
 refused-is-not-passes n x e = let z : _≡_ {A = ℕ} 0 1 = cc in omega arith
@@ -51,12 +51,16 @@ pub numbers-join : (P : ℕ → Type 0) (first second : List Refusal) → AllNum
 numbers-join P [] second all more = more
 numbers-join P (r ∷ first) second (this, all) more = (this, numbers-join P first second all more)
 
--- SPEC 9.10: what holds of every number in the tables: none is 0, and each fits a byte.
-abbrev pub Numbered : ℕ → Type 0
-Numbered n = (n ≡ 0 → ⊥) × (n < 256)
+-- SPEC 8.7, 9.10: what holds of the number of every answer, 0 among them: it fits a byte, and isn't the one that was taken out.
+abbrev pub InUse : ℕ → Type 0
+InUse n = (n < 256) × (n ≡ withdrawn → ⊥)
 
-pub line : (n : ℕ) → 0 < n → n < 256 → Numbered n
-line n some most = ((λ z. omega (arith, some, z)), most)
+pub zero-in-use : InUse 0
+zero-in-use = (omega arith, λ z. omega (arith, z))
+
+-- What holds of every number in the tables: besides none is 0.
+abbrev pub Numbered : ℕ → Type 0
+Numbered n = (n ≡ 0 → ⊥) × InUse n
 
 pub answer-number : {A : Type 0} (P : ℕ → Type 0) (table : List Refusal) (v : A) {n : ℕ} → AllNumbers P table → firstOf table v ≡ refused n → P n
 unfolding firstOf
@@ -77,6 +81,28 @@ three-hold a b c e =
     let outer = both-hold (a && b) c e in
     let inner = both-hold a b (outer .0) in
     (inner .0, inner .1, outer .1)
+
+-- That the numbers of a table are such is computed from them alone, whatever its conditions.
+abbrev pub allNumbered : List ℕ → Bool
+allNumbered [] = true
+allNumbered (n ∷ rest) = not (eqb n 0) && ltb n 256 && not (eqb n withdrawn) && allNumbered rest
+
+pub table-numbers : (table : List Refusal) → allNumbered (numbersOf table) ≡ true → AllNumbers Numbered table
+table-numbers [] e = tt
+table-numbers (r ∷ rest) e =
+    let outer = both-hold (not (eqb n 0) && ltb n 256 && not (eqb n withdrawn)) (allNumbered (numbersOf rest)) e in
+    let (some, byte, used) = three-hold (not (eqb n 0)) (ltb n 256) (not (eqb n withdrawn)) (outer .0) in
+    (((λ z. not-equal some z), (ltb-true n 256 byte, λ z. not-equal used z)), table-numbers rest (outer .1))
+  where
+    n : ℕ
+    n = r .number
+
+    not-equal : {m : ℕ} → not (eqb n m) ≡ true → n ≡ m → ⊥
+    not-equal {m} e same = true≢false (sym e ∙ ap not (eq-eqb n m same))
+
+-- So is the number that it gives.
+pub number-given : {A : Type 0} (table : List Refusal) (v : A) {n : ℕ} → allNumbered (numbersOf table) ≡ true → firstOf table v ≡ refused n → Numbered n
+number-given table v all e = answer-number Numbered table v (table-numbers table all) e
 
 -- Neither of two tests holds where their disjunction doesn't.
 pub neither-holds : (a b : Bool) → a || b ≡ false → (a ≡ false) × (b ≡ false)

@@ -20,6 +20,10 @@ refusal number applies = record { number = number; applies = applies }
 abbrev pub numbersOf : List Refusal → List ℕ
 numbersOf table = map (λ (r : Refusal). r .number) table
 
+-- SPEC 8.7: the number that was taken out of the tables. No entry answers it, and no line is to have it again.
+abbrev pub withdrawn : ℕ
+withdrawn = 11
+
 -- SPEC 8.1: what a table comes to. A value passes, or is refused with a number.
 pub data Answer (A : Type 0) : Type 0 where
   passes : A → Answer A

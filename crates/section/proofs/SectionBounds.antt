@@ -1,6 +1,6 @@
--- How great a section's answer can be: one number of 64 bits holds number and place (SPEC 9.10), and force and moment stay far below 2 ^ 63
--- (SPEC 15.5).
-use Prim.Native.Nat.{ℕ, _*_, _≤_, _<_}
+-- How great a section's answer can be: one number of 64 bits holds number and place (SPEC 8.7, 9.10), and force and moment stay far below
+-- 2 ^ 63 (SPEC 15.5).
+use Prim.Native.Nat.{ℕ, _*_, _≤_}
 use mathlib.Core.Path.{_≡_, refl, ap}
 use mathlib.Core.Bool.{true, not, _&&_}
 use mathlib.Core.List.{List, [], _∷_, map}
@@ -9,7 +9,7 @@ use native.Mathlib.Omega.{arith}
 use lib.IntN.{natAbs}
 use lib.ListN.{length}
 use Rattle.refusals.specs.Table.{Answer, passes, refused, firstOf}
-use Rattle.refusals.proofs.FirstLaws.{both-hold, both-pass, passes-line}
+use Rattle.refusals.proofs.FirstLaws.{InUse, zero-in-use, both-hold, both-pass, passes-line}
 use Rattle.ranges.specs.Ranges.{mostRods}
 use Rattle.units.proofs.Magnitudes.{magnitude-sum}
 use Rattle.sheet.specs.declared.Sheet.{Sheet}
@@ -18,7 +18,7 @@ use Rattle.rod.specs.declared.step.Advance.{Advance}
 use Rattle.sheet.specs.Sheets.{sheetRefusals, sheetOf}
 use Rattle.section.specs.declared.Member.{Member}
 use Rattle.section.specs.declared.Change.{Change}
-use Rattle.section.specs.Sections.{memberRight, allRight, callRight, sectionRefusals, forceOf, momentOf, mostForce, mostMoment, sum, Move, Moves, all, stopped, movesFrom, settled, sectionBy, sectionLeaves}
+use Rattle.section.specs.Sections.{memberRight, allRight, callRight, sectionRefusals, forceOf, momentOf, mostForce, mostMoment, sum, Move, Moves, all, stopped, movesFrom, SectionLeft, settled, sectionBy, sectionLeaves}
 use Rattle.section.proofs.MemberLaws.{force-most, force-magnitude, moment-most, moment-magnitude, next-stress-most}
 use Rattle.section.proofs.MovesLaws.{Pass, movesOf}
 use Rattle.section.proofs.Openings.{change-right}
@@ -37,15 +37,19 @@ section-right sheet c ms e =
 pub few-members : (sheet : List ℕ) (c : Change) (ms : List Member) {h : Sheet} → firstOf (sectionRefusals sheet c ms) (sheetOf sheet) ≡ passes h → length ms ≤ mostRods
 few-members sheet c ms e = change-right (length ms) c (section-right sheet c ms e .0) .1
 
-pub section-bounds : (sheet : List ℕ) (c : Change) (ms : List Member) → let r = sectionLeaves sheet c ms .reply in (r .number < 256) × (r .place ≤ mostRods)
+-- Number and place have room in one number, and the number is in use.
+abbrev pub Small : SectionLeft → Type 0
+Small l = InUse (l .reply .number) × (l .reply .place ≤ mostRods)
+
+pub section-bounds : (sheet : List ℕ) (c : Change) (ms : List Member) → Small (sectionLeaves sheet c ms)
 unfolding sectionLeaves sectionRefusals
 section-bounds sheet c ms = by-lines (firstOf (sectionRefusals sheet c ms) (sheetOf sheet)) refl
   where
-    by-moves : (v : Moves) (h : Sheet) → movesFrom h c 1 ms ≡ v → length ms ≤ mostRods → let r = settled v ms .reply in (r .number < 256) × (r .place ≤ mostRods)
-    by-moves (all vs) h e few = (omega arith, omega arith)
+    by-moves : (v : Moves) (h : Sheet) → movesFrom h c 1 ms ≡ v → length ms ≤ mostRods → Small (settled v ms)
+    by-moves (all vs) h e few = (zero-in-use, omega arith)
     by-moves (stopped n p) h e few = let at = stopped-at h c 1 ms e in (at .numbered .1, omega (arith, at .most, few))
 
-    by-lines : (q : Answer Sheet) → firstOf (sectionRefusals sheet c ms) (sheetOf sheet) ≡ q → let r = sectionBy q c ms .reply in (r .number < 256) × (r .place ≤ mostRods)
+    by-lines : (q : Answer Sheet) → firstOf (sectionRefusals sheet c ms) (sheetOf sheet) ≡ q → Small (sectionBy q c ms)
     by-lines (refused n) e = (lines-numbered sheet (not (callRight (length ms) c && allRight ms)) (sheetOf sheet) e .1, omega arith)
     by-lines (passes h) e = by-moves (movesFrom h c 1 ms) h refl (few-members sheet c ms e)
 

@@ -21,7 +21,7 @@ pack-requires : tie.Need-pack-requires
 pack-requires c κs =
     let a = start (c .before) .args in
     let small = subst Small (sym (grade-is (c .before))) (grade-small (a .sheet .now) (a .state .now) (grading (a .pairs .now) (a .rows .now) (a .tolerance))) in
-    (small .number, small .place)
+    (small .number .0, small .place)
 
 returns : tie.Need-returns
 returns c = let row = c .before in ap₂ gradeSeen (c .pack .ensures) (row .row .ensures) ∙ ap gradeSeenOf (grade-is (row .before))

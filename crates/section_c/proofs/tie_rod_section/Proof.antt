@@ -48,7 +48,7 @@ use Rattle.section.specs.declared.Change.{Change}
 use Rattle.section.specs.declared.Member.{Member}
 use Rattle.section.specs.declared.SectionReply.{SectionReply}
 use Rattle.section.specs.Sections.{SectionLeft, changeOf, sectionLeaves, sectionLeft}
-use Rattle.section.proofs.SectionBounds.{section-bounds}
+use Rattle.section.proofs.SectionBounds.{Small, section-bounds}
 use Rattle.section.proofs.Parts.{Members, Replies, word}
 use Rattle.section.proofs.SectionReply as Y
 use Rattle.section.proofs.SectionReply.Laws as Y′
@@ -192,7 +192,7 @@ module _ {M : Type 1} (𝓤 : URA M) (H : Heap 𝓤) (A : Atoms 𝓤) (W : Given
 
   -- the answer's number and place are small
   small : (r : SectionReply) (zs : List Member) → sectionLeft r zs ≡ leaves → (r .number < 256) × (r .place ≤ mostRods)
-  small r zs e = subst (λ (y : SectionLeft). (y .reply .number < 256) × (y .reply .place ≤ mostRods)) (sym e) (section-bounds (s .now) c (m .now))
+  small r zs e = let (number, place) = subst Small (sym e) (section-bounds (s .now) c (m .now)) in (number .0, place)
 
   -- ---- the exit
   exits : (r : SectionReply) (k : ℕ) (v : Val) (zs : List Member) → k ≡ inOneNumber (r .number) (r .place) → sectionLeft r zs ≡ leaves → length zs ≡ length (m .now)

@@ -18,7 +18,7 @@ pack-requires c κs =
     let sheet = s .args .sheet .now in
     let state = s .args .state .now in
     let small = reply-small (ap (λ (l : TrialLeft). l .left) (entry .trial .ensures) ∙ trial-single sheet state (asked s)) (call-small sheet state (asSingle (asked s))) in
-    (small .number, small .place)
+    (small .number .0, small .place)
 
 returns : tie.Need-returns
 returns c = trial-seen-as (c .pack .ensures) (c .before .before .before .before .before .trial .ensures)

@@ -22,7 +22,7 @@ write-refused-requires c κs =
     let pair = c .before .before .before .before .before .before in
     let s = start pair in
     let long : length (s .args .trial .now) ≡ trialLength = search needs in
-    (reply-small (pair .pair-bytes .ensures) (call-small (s .args .sheet .now) (s .args .state .now) (asSingle (asked s))) .number, long)
+    (reply-small (pair .pair-bytes .ensures) (call-small (s .args .sheet .now) (s .args .state .now) (asSingle (asked s))) .number .0, long)
 
 returns : tie.Need-returns
 returns c =
