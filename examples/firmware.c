@@ -139,7 +139,7 @@ static const char *who(unsigned number)
         return "the state";
     if (number <= 9)
         return "the logger";
-    if (number <= 11)
+    if (number == TIE_ROD_RANGE)
         return "the steel";
     return "the caller";
 }
@@ -156,7 +156,7 @@ static void print_refusal(uint64_t answer)
 }
 
 /*
- * What a call leaves on the card (SPEC 9.3). On 0 and 8 to 11 the rod has moved
+ * What a call leaves on the card (SPEC 9.3). On 0 and 8 to 10 the rod has moved
  * as far as its pairs were accepted, and that state is stored. On 1 to 6 and 13
  * `next` is zero bytes, which are no state, and on 7 and 12 the old state holds:
  * the card is left alone, and the refusal has been reported.

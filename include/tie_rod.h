@@ -133,11 +133,13 @@ enum tie_rod_branches {
 
 /*
  * The numbers (SPEC 8.2). A call answers the first of them that applies, in this
- * order: 1, 2, 3, 13, 4, 5, 6, then 7 and 12, then pair by pair 8, 9, 11 and 10.
- * A section: 1, 2, 3, 13, then 14, then rod by rod 5, 6, 8, 9, 11 and 10.
+ * order: 1, 2, 3, 13, 4, 5, 6, then 7 and 12, then pair by pair 8, 9 and 10.
+ * A section: 1, 2, 3, 13, then 14, then rod by rod 5, 6, 8, 9 and 10.
  * A keeping: 12, then 15.
- * A grading: 1, 2, 3, 13, 4, 5, 6, 7, then pair by pair 8, 9, 11 and 10, then
- * 16, then 17.
+ * A grading: 1, 2, 3, 13, 4, 5, 6, 7, then pair by pair 8, 9 and 10, then 16,
+ * then 17.
+ * There is no 11: it was taken out, no call answers it, and no other condition
+ * will ever have it (SPEC 8.7).
  */
 enum tie_rod_numbers {
     TIE_ROD_ACCEPTED = 0,
@@ -170,9 +172,6 @@ enum tie_rod_numbers {
     /* About the steel. */
     TIE_ROD_RANGE = 10,       /* the new stress, centre, abscissa or n wouldn't fit its
                                  range (SPEC 8.5) */
-    TIE_ROD_BOTH_LIMITS = 11, /* law 3: the trial stress lies beyond both limits. That
-                                 no sheet and state which pass can meet it is proved
-                                 (SPEC 8.7) */
 
     /* For the caller. */
     TIE_ROD_BUFFER = 12,      /* rows below 16 bytes a pair, or next not 37 bytes; for
@@ -196,11 +195,11 @@ enum tie_rod_numbers {
  * A whole run (SPEC 9.6): carries the rod over a list of up to 4,096 pairs.
  *
  * The answer is number + 256 * place. The place is that of the refused pair,
- * from 1, for numbers 8 to 11, and 0 otherwise.
+ * from 1, for numbers 8 to 10, and 0 otherwise.
  *
  *   number        rows                         next (if its length is 37)
  *   0             a row for each pair          the state after the last pair
- *   8 to 11       a row for each pair before   the state after the last
+ *   8 to 10       a row for each pair before   the state after the last
  *                 the place                    accepted pair
  *   7, 12         unchanged                    the bytes of `state`
  *   1 to 6, 13    unchanged                    37 zero bytes
@@ -210,7 +209,7 @@ enum tie_rod_numbers {
  * on every answer, and so do rows that are too short. An empty list is accepted
  * with no row, and `next` then holds the bytes of `state`.
  *
- * Whoever keeps the state on a card stores `next` on 0 and on 8 to 11 only, as
+ * Whoever keeps the state on a card stores `next` on 0 and on 8 to 10 only, as
  * tie_rod_has_next says. On 1 to 6 and 13 its zeros would take the state off the
  * card: leave the card alone and report the number. On 7 and 12 the old state
  * holds, and a `next` of another length holds whatever it held before the call.
@@ -342,7 +341,7 @@ _Static_assert(TIE_ROD_MEMBER_FITS, "struct tie_rod_member lies otherwise than t
  *   1, 2, 3, 13             0          the sheet is refused
  *   14                      0          the count, an area or an offset of any
  *                                      member, the mean or the curvature
- *   5, 6, 8, 9, 10, 11      1 to 32    the lowest refused rod: what tie_rod_pair
+ *   5, 6, 8, 9, 10          1 to 32    the lowest refused rod: what tie_rod_pair
  *                                      answers for its state and its pair; 8 for
  *                                      the temperature too, or for a strain
  *                                      change beyond 200,000,000
@@ -386,7 +385,7 @@ uint64_t tie_rod_section(const uint8_t *sheet, size_t sheet_len,
  *   0             0           1 to 4,096   it isn't: the first row, from 1, whose
  *                                          stress isn't within the tolerance
  *   1 to 7, 13    0           0            what tie_rod_run answers
- *   8 to 11       of a pair   0            what tie_rod_run answers: the refused
+ *   8 to 10       of a pair   0            what tie_rod_run answers: the refused
  *                                          pair's own number, and its place from 1
  *   16            0           0            rows_len isn't 16 bytes for each pair
  *   17            0           0            the tolerance isn't in its range
@@ -438,7 +437,7 @@ static inline size_t tie_rod_place(uint64_t answer)
 /*
  * Whether `next` after tie_rod_run, tie_rod_pair or tie_rod_keep is to be stored:
  * all pairs were accepted, or one of them was refused and so has a place (8 to
- * 11). On any other answer, 13 among them, the card stays as it is. Not for
+ * 10). On any other answer, 13 among them, the card stays as it is. Not for
  * tie_rod_trial, whose `next` is never stored.
  */
 static inline int tie_rod_has_next(uint64_t answer)

@@ -2,6 +2,9 @@
 
 use std::fmt;
 
+/// The number that was taken out of the list: no entry answers it (SPEC 8.7).
+pub const WITHDRAWN: u64 = 11;
+
 #[derive(Clone, Copy, Debug, PartialEq, Eq)]
 pub enum Entry {
     /// A whole run.
@@ -65,7 +68,7 @@ impl Outcome {
     pub fn accepted(&self, pairs: &[u8]) -> usize {
         match self.number() {
             0 => pairs.len() / 6,
-            8..=11 => self.place() as usize - 1,
+            8..=10 => self.place() as usize - 1,
             _ => 0,
         }
     }

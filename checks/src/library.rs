@@ -1,10 +1,12 @@
 //! The library through its C interface, `include/tie_rod.h`. Every buffer lies
-//! between guard bytes, and what is only read is lent as it is.
+//! between guard bytes, and what is only read is lent as it is. Every answer is
+//! looked at for the number that was taken out.
 
-use crate::call::{Call, Entry, Outcome};
+use crate::call::{Call, Entry, Outcome, WITHDRAWN};
 use crate::grade;
 use crate::section::{self, Member, UNWRITTEN};
 use crate::trial::TRIAL_BYTES;
+use std::fmt::Display;
 
 extern "C" {
     fn tie_rod_run(
@@ -193,13 +195,29 @@ impl Guarded {
     }
 }
 
+/// An answer of the library. Panics, with the bytes, if it has the number that was taken out (SPEC 8.7).
+fn in_use(answer: u64, call: &dyn Display) -> u64 {
+    assert_ne!(answer % 256, WITHDRAWN, "the number that was taken out is answered\n{call}");
+    answer
+}
+
+#[test]
+fn the_number_that_was_taken_out_is_noticed() {
+    let noticed = |answer: u64| std::panic::catch_unwind(|| in_use(answer, &"")).is_err();
+    for number in 0..256 {
+        for more in [0, 1, 300, 4_096, 400_000] {
+            assert_eq!(noticed(number + 256 * more), number == 11);
+        }
+    }
+}
+
 /// The call by the library. Panics, with the bytes, if it writes anything but
 /// the lent buffers.
 pub fn call(call: &Call) -> Outcome {
     let shift = call.sheet.len() + call.pairs.len() + call.next.first().map_or(0, |&byte| byte as usize);
     let given = [&call.sheet, &call.state, &call.pairs, &call.rows, &call.next, &call.trial];
     let mut lent: [Guarded; 6] = std::array::from_fn(|i| Guarded::new(given[i], shift >> i));
-    let answer = answer(call.entry, &mut lent);
+    let answer = in_use(answer(call.entry, &mut lent), call);
     assert!(lent.iter().all(Guarded::untouched_around), "a byte outside the buffers was written\n{call}");
     let [sheet, state, pairs, rows, next, trial] = lent.map(|buffer| buffer.bytes().to_vec());
     let read_alone = (&sheet, &state, &pairs) == (&call.sheet, &call.state, &call.pairs);
@@ -280,7 +298,7 @@ pub fn section_call(call: &section::Call) -> section::Outcome {
     assert!(guarded, "a byte of a member that isn't lent was written\n{call}");
     let [a, force, b, moment, c] = sums;
     assert!([a, b, c] == [UNWRITTEN; 3], "a byte beside force and moment was written\n{call}");
-    section::Outcome { answer, force, moment, members: members[GUARD_MEMBERS..end].to_vec() }
+    section::Outcome { answer: in_use(answer, call), force, moment, members: members[GUARD_MEMBERS..end].to_vec() }
 }
 
 /// The grading by the library. Panics, with the bytes, if it writes anything but the row.
@@ -310,5 +328,5 @@ pub fn grade_call(call: &grade::Call) -> grade::Outcome {
     assert!(read_alone, "a byte that is only read was written\n{call}");
     let [before, row, behind] = around;
     assert!([before, behind] == [grade::UNWRITTEN; 2], "a byte beside the row was written\n{call}");
-    grade::Outcome { answer, row }
+    grade::Outcome { answer: in_use(answer, call), row }
 }

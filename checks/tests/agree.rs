@@ -1,7 +1,7 @@
 //! Calls by the rules over fractions, by the quick version and by the library:
 //! number, place and every byte of every buffer are the same.
 
-use checks::call::{difference, shortest, Call, Entry};
+use checks::call::{difference, shortest, Call, Entry, WITHDRAWN};
 use checks::fraction::Fraction;
 use checks::generate::{self, PointDamage};
 use checks::layout::{self, Field, PAIR_BYTES, POINT_BYTES, SEGMENT_BYTES, SHEET_BYTES, STATE_BYTES};
@@ -50,12 +50,12 @@ impl Tally {
         &self.numbers[entry as usize]
     }
 
-    /// Each of these numbers was answered by that entry, at least so often; 11 never.
+    /// Each of these numbers was answered by that entry, at least so often; the one that was taken out never.
     fn assert_seen(&self, entry: Entry, numbers: &[usize], least: usize) {
         for &number in numbers {
             assert!(self.of(entry)[number] >= least, "{entry:?} answered {number} seldom: {:?}", self.numbers);
         }
-        assert_eq!(self.of(entry)[11], 0);
+        assert_eq!(self.of(entry)[WITHDRAWN as usize], 0);
     }
 }
 
@@ -463,7 +463,7 @@ impl Seen {
             let old = state.numbers();
             let (before, after) = (Fraction::from(state.temperature), Fraction::from(pair.temperature));
             let trial = sheet.trial(&old.stress, &Fraction::from(pair.change), &before, &after);
-            let (exact, flow) = rules::solution(&sheet, &old, &trial).unwrap();
+            let (exact, flow) = rules::solution(&sheet, &old, &trial);
             let stored = rules::rounded(&sheet, &old, (&exact, flow));
             match rules::step(&sheet, &state, &pair) {
                 Ok((new, _)) => {

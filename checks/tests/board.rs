@@ -91,7 +91,7 @@ fn two_thirds_of_a_grain() {
     assert_eq!(stresses(&sheet, &[333_334]), [(1_000_000, true)]);
     let sheet = rules::read_sheet(&sheet).unwrap();
     let exact = rules::solution(&sheet, &rules::unused(&sheet).numbers(), &Fraction::from(3 * 333_334));
-    assert_eq!(exact.unwrap().0.stress, Fraction::ratio(3_000_002, 3));
+    assert_eq!(exact.0.stress, Fraction::ratio(3_000_002, 3));
 }
 
 #[test]

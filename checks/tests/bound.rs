@@ -2,7 +2,7 @@
 //! from the unused rod on, all lies within k grains of the bar without rounding
 //! at every stop, k being counted over the rows.
 
-use checks::call::Entry;
+use checks::call::{Entry, WITHDRAWN};
 use checks::generate::{self, flowing_pair, pair};
 use checks::list::{Held, List, Seen};
 use checks::random::Random;
@@ -65,7 +65,7 @@ fn histories(seed: u64, rounds: usize, length: usize, longest: i64) -> Seen {
     assert!(all.heated * 50 >= all.stops && all.heated_yielded * 3 >= all.heated, "few heats: {all:?}");
     let numbers = all.of(Entry::Run);
     assert!([0, 7, 8, 9, 12].iter().all(|&number| numbers[number] > 0), "{all:?}");
-    assert_eq!(numbers[11] + all.of(Entry::Pair)[11], 0);
+    assert!([Entry::Run, Entry::Pair].iter().all(|&entry| all.of(entry)[WITHDRAWN as usize] == 0), "{all:?}");
     all
 }
 

@@ -1,5 +1,5 @@
 //! The conditions of one pair have one solution, the one that the rules name,
-//! and no other candidate among many meets them.
+//! and no other candidate among many meets them. No trial passes both limits.
 
 use checks::fraction::Fraction;
 use checks::random::Random;
@@ -53,7 +53,7 @@ fn the_solution_meets_the_conditions() {
         let sheet = sheet(&mut random);
         let old = old_numbers(&mut random, &sheet);
         let trial = &old.stress + &Fraction::ratio(random.range(-60, 60), random.pick(&[1, 2, 3]));
-        let (new, flow) = solution(&sheet, &old, &trial).unwrap();
+        let (new, flow) = solution(&sheet, &old, &trial);
         assert!(conditions(&sheet, &old, &trial, &new), "{sheet:?}\n{old:?}\n{trial}\n{new:?}");
         assert_eq!(flow == Flow::None, new.stress == trial);
         // What flowed is the way that plastic strain went.
@@ -61,6 +61,40 @@ fn the_solution_meets_the_conditions() {
         let stored = rounded(&sheet, &old, (&new, flow));
         assert!(flow != Flow::None || stored == new);
     }
+}
+
+/// The limits of SPEC 6.6: a trial s passes that of tension where s is above the first, that of compression where −s is
+/// above the second.
+fn limits(sheet: &Sheet, old: &Numbers) -> [Fraction; 2] {
+    let radius = &sheet.tension.yield_stress;
+    match sheet.law {
+        Law::Kinematic => [&old.first + radius, radius - &old.first],
+        Law::Asymmetric => [sheet.tension.limit(&old.first), sheet.compression.as_ref().unwrap().limit(&old.second)],
+        _ => [sheet.tension.limit(&old.first), sheet.tension.limit(&old.first)],
+    }
+}
+
+/// At each limit, beside it, around 0 and far out; what flows goes by the limit that is passed.
+#[test]
+fn no_trial_passes_both_limits() {
+    let mut random = Random::new(202);
+    let mut flows = [0; 3];
+    for _ in 0..100_000 {
+        let sheet = sheet(&mut random);
+        let old = old_numbers(&mut random, &sheet);
+        let [tension, compression] = limits(&sheet, &old);
+        let near = [tension.clone(), -&compression, Fraction::zero()][random.below(3) as usize].clone();
+        let trial = &near + &Fraction::ratio(random.range(-4, 4), random.pick(&[1, 7, 1_000_000]));
+        let flow = match (trial > tension, -&trial > compression) {
+            (false, false) => Flow::None,
+            (true, false) => Flow::Tension,
+            (false, true) => Flow::Compression,
+            (true, true) => panic!("both limits are passed: {sheet:?}\n{old:?}\n{trial}"),
+        };
+        assert_eq!(solution(&sheet, &old, &trial).1, flow, "{sheet:?}\n{old:?}\n{trial}");
+        flows[flow as usize] += 1;
+    }
+    assert!(flows.iter().all(|&met| met >= 10_000), "{flows:?}");
 }
 
 /// Candidates on a grid of eighths of 1 / E² around old and new, and each with
@@ -73,7 +107,7 @@ fn nothing_else_meets_them() {
         let sheet = sheet(&mut random);
         let old = old_numbers(&mut random, &sheet);
         let trial = &old.stress + &Fraction::ratio(random.range(-30, 30), random.pick(&[1, 2]));
-        let new = solution(&sheet, &old, &trial).unwrap().0;
+        let new = solution(&sheet, &old, &trial).0;
         for _ in 0..200 {
             let candidate = candidate(&mut random, &sheet, &old, &trial, &new);
             if conditions(&sheet, &old, &trial, &candidate) {

@@ -50,7 +50,7 @@ impl Tally {
         for &number in numbers {
             assert!(self.numbers[number] >= least, "{number} was answered seldom: {self:?}");
         }
-        assert_eq!(self.numbers[4] + self.numbers[7] + self.numbers[11] + self.numbers[12], 0);
+        assert!([4, 7, 11, 12].iter().all(|&number| self.numbers[number] == 0), "{self:?}");
     }
 
     fn assert_seen_late(&self, numbers: &[u64], least: usize) {

@@ -3,7 +3,7 @@
 //! keeping is refused under its two conditions and no others, and every byte is
 //! the same.
 
-use checks::call::{Call, Entry, Outcome};
+use checks::call::{Call, Entry, Outcome, WITHDRAWN};
 use checks::generate;
 use checks::layout::{self, PAIR, PAIR_BYTES, ROW_BYTES, STATE_BYTES};
 use checks::log::line;
@@ -29,7 +29,7 @@ fn assert_seen(numbers: &Numbers, wanted: &[usize], least: usize) {
     for &number in wanted {
         assert!(numbers[number] >= least, "{number} was answered seldom: {numbers:?}");
     }
-    assert_eq!(numbers[11], 0);
+    assert_eq!(numbers[WITHDRAWN as usize], 0);
 }
 
 // ---- trials ----
