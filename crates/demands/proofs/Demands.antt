@@ -18,13 +18,14 @@ use Rattle.demands.proofs.SectionAnswers.{section-answered}
 use Rattle.demands.proofs.SectionLists.{within-from}
 
 -- SPEC 9.11, 15.8, 16.7, 16.8, 17.7, demand 1: any bytes of any length, as sheet and as state, with any call, trial, keeping, grading,
--- section, forecast or unused rod asked of them, are answered with the number and place that the tables give and with no others, and all
--- that was lent is as the stage of the refusal says.
+-- section, forecast or unused rod asked of them, are answered with the number and place that the tables give and with no others, never the
+-- number that was taken out (8.7), and all that was lent is as the stage of the refusal says.
 pub demand-1 : (sheet state : List ℕ) → Answered sheet state
 demand-1 sheet state = all-answered sheet state (grading-answered sheet state) (section-answered sheet)
 
 -- SPEC 9.12, 9.13, 16.9, demand 2: for any sheet and state that pass 1 to 6 and 13, reachable or not, each pair that a call or a trial
--- accepts, or a keeping hands on, leaves the roundings of the one solution that the law's conditions have there, with the law's tangent.
+-- accepts, or a keeping hands on, leaves the roundings of the one solution that the law's conditions have there, with the law's tangent;
+-- and no trial passes both limits (6.6).
 pub demand-2 : (sheet state : List ℕ) → NoneApplies (standingRefusals sheet state)
     → (sound : SheetSound (sheetOf sheet)) × SolvedFrom sheet state sound
 demand-2 = all-solved

@@ -1,7 +1,7 @@
--- What demands 1 and 2 claim of calls on bytes (SPEC 9.11 to 9.13, 16.9): the single pair, the run, the trial and its keeping, the forecast
--- and the unused rod, on any bytes of any lengths; cited by proofs/Demands. Definitions only, over what a call leaves and never over the
--- program; nothing is assumed. What demand 1 claims of trials, keepings, gradings and sections is in Trials, Gradings and Sections; demand
--- 3, over lists, is AtEveryStop in Lists and WithinFrom in Sections.
+-- What demands 1 and 2 claim of calls on bytes (SPEC 6.6, 8.7, 9.11 to 9.13, 16.9): the single pair, the run, the trial and its keeping,
+-- the forecast and the unused rod, on any bytes of any lengths; cited by proofs/Demands. Definitions only, over what a call leaves and never
+-- over the program; nothing is assumed. What demand 1 claims of trials, keepings, gradings and sections is in Trials, Gradings and Sections;
+-- demand 3, over lists, is AtEveryStop in Lists and WithinFrom in Sections.
 use Prim.Native.Nat.{ℕ, _+_, _*_, _≤_, _<_}
 use mathlib.Core.Path.{_≡_}
 use mathlib.Core.List.{List, [], _∷_, _++_}
@@ -214,7 +214,8 @@ pub record SolvedFrom (sheet state : List ℕ) (sound : SheetSound (sheetOf shee
       kept .number ≡ 0 → TrialSolved sheet sound state t (kept .next)
   pub range : (pair : List ℕ) → RangeDecided (sheetOf sheet) sound (stateOf state) pair
   -- SPEC 6.6: whatever the trial, whole or not, it doesn't pass both limits
-  pub one-limit : (trial : Frac) → let h = sheetOf sheet in let first = whole (stateOf state .first .0) in let second = whole (stateOf state .second .0) in
-      PassesTension h sound (h .law) trial first second → PassesCompression h sound (h .law) trial first second → ⊥
+  pub one-limit : (trial : Frac) → let h = sheetOf sheet in let r = stateOf state in
+      PassesTension h sound (h .law) trial (whole (r .first .0)) (whole (r .second .0))
+      → PassesCompression h sound (h .law) trial (whole (r .first .0)) (whole (r .second .0)) → ⊥
   -- An unused rod has no plastic strain (SPEC 5.6).
   pub unused : plasticAt (sheetOf sheet) (unusedOf (sheetOf sheet)) ≡ pos 0
