@@ -22,7 +22,6 @@ use Rattle.flow.specs.CurveSide.{sideOf}
 use Rattle.flow.specs.Solution.{isotropic}
 use Rattle.flow.specs.Stored.{sideStored, isotropicStored, kinematicStored}
 use Rattle.response.specs.Response.{isotropicMoved, kinematicMoved, asymmetricOutcome, outcomeUnder}
-use Rattle.rod.specs.WithinLimit.{withinLimit}
 use Rattle.rod.specs.Unused.{unusedOf}
 use Rattle.rod.specs.Steps.{trialOf, advanceOf, strainLeaves, leavesRange, stepRefusals}
 use Rattle.carry.specs.Walk.{pairTable, pairAnswer, walk}
@@ -30,7 +29,7 @@ use Rattle.board.specs.Board.{Loop, board, softSteel, softPull, LoopRigh
 
 -- All nine rows.
 pub board-right : AllRight board
-unfolding board walk pairAnswer pairTable pairRefusals pairBytes pairInRange firstOf stepRefusals strainLeaves leavesRange advanceOf trialOf thermalOf coefficientIn unusedOf outcomeUnder isotropicMoved kinematicMoved asymmetricOutcome isotropicStored kinematicStored sideStored limitAt height rise tangentAt tangentIn spans curveOf segmentsOf placed withinLimit field twos bitsOf widths packed bytesOf lawOf allBelow lengthWrong sheetCountsRight constantsRight yieldsRight headerRight lengthsRight pointsRight tangentsRight temperaturesRise sheetFieldRefusals sheetRefusals listed sheetOf allBytes sheetBytes
+unfolding board walk pairAnswer pairTable pairRefusals pairBytes pairInRange firstOf stepRefusals strainLeaves leavesRange advanceOf trialOf thermalOf coefficientIn unusedOf outcomeUnder isotropicMoved kinematicMoved asymmetricOutcome isotropicStored kinematicStored sideStored limitAt height rise tangentAt tangentIn spans curveOf segmentsOf placed field twos bitsOf widths packed bytesOf lawOf allBelow lengthWrong sheetCountsRight constantsRight yieldsRight headerRight lengthsRight pointsRight tangentsRight temperaturesRise sheetFieldRefusals sheetRefusals listed sheetOf allBytes sheetBytes
 board-right =
     (record { sheet-passes = refl; pairs-pass = refl; rows-right = refl }, (record { sheet-passes = refl; pairs-pass = refl; rows-right = refl }, (record { sheet-passes = refl; pairs-pass = refl; rows-right = refl }, (record { sheet-passes = refl; pairs-pass = refl; rows-right = refl }, (record { sheet-passes = refl; pairs-pass = refl; rows-right = refl }, (record { sheet-passes = refl; pairs-pass = refl; rows-right = refl }, (record { sheet-passes = refl; pairs-pass = refl; rows-right = refl }, (record { sheet-passes = refl; pairs-pass = refl; rows-right = refl }, (record { sheet-passes = refl; pairs-pass = refl; rows-right = refl }, tt)))))))))
 
