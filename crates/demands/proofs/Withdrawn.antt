@@ -1,6 +1,6 @@
 -- SPEC 8.7: no entry answers the number that was taken out. The numbers of each table are in use, and so is 0.
 use Prim.Native.Nat.{ℕ}
-use mathlib.Core.Path.{_≡_, refl, ap}
+use mathlib.Core.Path.{_≡_, refl}
 use mathlib.Core.List.{List}
 use lib.ListN.{length}
 use Rattle.refusals.specs.Table.{Answer, passes, refused, firstOf}
