@@ -1,6 +1,6 @@
 //! The library through its C interface, `include/tie_rod.h`. Every buffer lies
-//! between guard bytes, and what is only read is lent as it is. Every answer is
-//! looked at for the number that was taken out.
+//! between guard bytes, and what is only read is lent as it is. The answer of
+//! every such call is looked at for the number that was taken out.
 
 use crate::call::{Call, Entry, Outcome, WITHDRAWN};
 use crate::grade;
