@@ -74,6 +74,9 @@ fn limits(sheet: &Sheet, old: &Numbers) -> [Fraction; 2] {
     }
 }
 
+/// Beyond every trial stress that a call can come to.
+const FAR: i64 = 1_000_000_000_000_000;
+
 /// At each limit, beside it, around 0 and far out; what flows goes by the limit that is passed.
 #[test]
 fn no_trial_passes_both_limits() {
@@ -84,7 +87,8 @@ fn no_trial_passes_both_limits() {
         let old = old_numbers(&mut random, &sheet);
         let [tension, compression] = limits(&sheet, &old);
         let near = [tension.clone(), -&compression, Fraction::zero()][random.below(3) as usize].clone();
-        let trial = &near + &Fraction::ratio(random.range(-4, 4), random.pick(&[1, 7, 1_000_000]));
+        let away = if random.chance(10) { FAR } else { 4 };
+        let trial = &near + &Fraction::ratio(random.range(-away, away), random.pick(&[1, 7, 1_000_000]));
         let flow = match (trial > tension, -&trial > compression) {
             (false, false) => Flow::None,
             (true, false) => Flow::Tension,

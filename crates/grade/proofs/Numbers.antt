@@ -8,7 +8,7 @@ use native.Mathlib.Omega.{arith}
 use lib.Dec.{eqb}
 use lib.ListN.{length}
 use Rattle.refusals.specs.Table.{Answer, passes, refused, firstOf}
-use Rattle.refusals.proofs.FirstLaws.{AllNumbers, numbers-join, InUse, zero-in-use, Numbered, table-numbers, answer-number, both-pass, passes-given, passes-anyhow}
+use Rattle.refusals.proofs.FirstLaws.{AllNumbers, InUse, zero-in-use, Numbered, table-numbers, answer-number, both-pass, passes-given, passes-anyhow}
 use Rattle.ranges.specs.Ranges.{mostPairs}
 use Rattle.pair.specs.Pairs.{pairLength, listRefusals}
 use Rattle.sheet.specs.Sheets.{sheetOf}
@@ -18,7 +18,7 @@ use Rattle.judge.specs.Standing.{standingRefusals}
 use Rattle.tie_rod.specs.Calls.{run, countIn, pairsIn, placeOf}
 use Rattle.tie_rod.proofs.PieceLaws.{length-pieces}
 use Rattle.tie_rod.proofs.CallLaws.{list-counts}
-use Rattle.tie_rod.proofs.Numbers.{standing-numbers, list-numbers, walk-in-use, walk-place}
+use Rattle.tie_rod.proofs.Numbers.{opening-numbers, walk-in-use, walk-place}
 use Rattle.grade.specs.Grades.{Grading, firstOutside, Verdict, verdict, gradingRefusals, openingRefusals, verdictBy, verdictOn, gradeOf}
 
 pub record Small (v : Verdict) : Type 0 where
@@ -62,8 +62,7 @@ grade-small sheet state g = by-opening (firstOf (openingRefusals sheet state g) 
     by-opening : (x : Answer Verdict) → firstOf (openingRefusals sheet state g) told ≡ x → Small (verdictBy x)
     by-opening (refused n) e =
         record {
-          number = answer-number Numbered (openingRefusals sheet state g) told
-              (numbers-join Numbered (standingRefusals sheet state) (listRefusals (length (g .pairs))) (standing-numbers sheet state) (list-numbers (length (g .pairs)))) e .1;
+          number = answer-number Numbered (openingRefusals sheet state g) told (opening-numbers sheet state (length (g .pairs))) e .1;
           place = omega arith;
         }
     by-opening (passes v) e =

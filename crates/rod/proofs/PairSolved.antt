@@ -54,7 +54,7 @@ pub pair-solved : {h : Sheet} {r : Rod} (accepted : Accepted h r) (p : Pair)
     → Solved h (accepted .sound) (h .law) (trialOf h r p) (r .first .0) (r .second .0) (outcomeAfter h r p)
 pair-solved {h} {r} accepted p = law-solved h (accepted .sound) (trialOf h r p) (r .first .0) (r .second .0) (past-of accepted)
 
--- Whatever the trial, a state that passes has at most one limit that it passes.
+-- Of a state that passes, no trial passes both limits.
 pub pair-one-limit : {h : Sheet} {r : Rod} (accepted : Accepted h r) (trial : Frac)
     → PassesTension h (accepted .sound) (h .law) trial (whole (r .first .0)) (whole (r .second .0))
     → ¬ PassesCompression h (accepted .sound) (h .law) trial (whole (r .first .0)) (whole (r .second .0))
