@@ -1,18 +1,20 @@
 // Fields of bits in bytes (SPEC 3.1 to 3.6): their readers, and the writer of a number into a lent buffer.
 // Any bytes of any length are read: a bit behind the last byte is 0.
+#![tactic(auto)]
+
 ghost use Rattle.std.specs.Prelude.{◌≡◌, ◌+◌, ◌-◌, ◌*◌, ◌^◌, ◌≤◌, ◌<◌, negsuc, length, get_or};
 ghost use Rattle.bits.specs.Field.{field, twos, bits_of, Held, flag, unsigned_of, signed_of};
 ghost use Rattle.bits.specs.Layout.{bytes_of, put};
 
 // What the reader of an unsigned field answers: the number, or that it lies outside its bounds.
-#[derive(Drop)]
+#[derive(Clone, Copy)]
 pub enum Unsigned {
     Value(u64),
     OutOfRange,
 }
 
 // The same for a signed field.
-#[derive(Drop)]
+#[derive(Clone, Copy)]
 pub enum Signed {
     Value(i64),
     OutOfRange,

@@ -1,8 +1,10 @@
 // The branch of the law that gave a row (SPEC 7.7), and the three bits that name it there (SPEC 3.14).
+#![tactic(auto)]
+
 ghost use Rattle.std.specs.Prelude.{◌≡◌};
 ghost use Rattle.branch.specs.Branches.{branch_number, branch_of, yielded_by};
 
-#[derive(Drop)]
+#[derive(Clone, Copy)]
 pub enum Branch {
     Elastic,
     Tension,

@@ -1,4 +1,6 @@
 // A pair tried on a rod, and its trial kept (SPEC 7.15), by value: a trial answers the rod as the pair would leave it, or a refusal.
+#![tactic(auto)]
+
 ghost use Rattle.std.specs.Prelude.{◌≡◌, true, ◌+◌, ◌*◌, ◌≤◌, length, take, drop};
 ghost use Rattle.refusals.specs.Table.{first_of};
 ghost use Rattle.ranges.specs.Ranges.{temperature_right};
@@ -19,7 +21,7 @@ use units::Nano;
 
 // A rod with the yield limits at its variables (SPEC 7.12) and the thermal strain at its temperature. They are found once and kept up from
 // pair to pair.
-#[derive(Drop)]
+#[derive(Clone, Copy)]
 pub struct Reached {
     pub rod: Rod,
     pub limits: Limits,
@@ -27,14 +29,14 @@ pub struct Reached {
 }
 
 // What an accepted trial comes to: the rod as it would be after the pair, and the row of the pair.
-#[derive(Drop)]
+#[derive(Clone, Copy)]
 pub struct Carried {
     pub to: Reached,
     pub row: Row,
 }
 
 // What trying a pair answers.
-#[derive(Drop)]
+#[derive(Clone, Copy)]
 pub enum Tried {
     Accepted(Carried),
     Refused(u64),

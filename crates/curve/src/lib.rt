@@ -1,4 +1,6 @@
 // One side of the traction curve (SPEC 4): the yield limit T, read at an abscissa.
+#![tactic(auto)]
+
 ghost use Rattle.std.specs.Prelude.{◌≡◌, ◌+◌, ◌*◌, ◌/◌, ◌^◌, ◌≤◌, ◌<◌};
 ghost use Rattle.units.specs.Kinds.{magnitude};
 ghost use Rattle.curve.specs.Sides.{Readable, reading_of};
@@ -6,7 +8,7 @@ ghost use Rattle.curve.specs.Sides.{Readable, reading_of};
 use units::{Length, Magnitude, Modulus};
 
 // A straight part of the curve (SPEC 3.8). The last segment of a side has no end; its length is 0.
-#[derive(Drop)]
+#[derive(Clone, Copy)]
 pub struct Segment {
     pub length: Length,
     pub tangent: Modulus,
@@ -16,7 +18,7 @@ pub struct Segment {
 pub const MOST_SEGMENTS: usize = 7;
 
 // One side of the curve, tension or compression: the yield stress, and `count` segments (SPEC 3.9).
-#[derive(Drop)]
+#[derive(Clone, Copy)]
 pub struct Side {
     pub yield_stress: Magnitude,
     pub count: usize,
@@ -24,7 +26,7 @@ pub struct Side {
 }
 
 // What the curve says at an abscissa (SPEC 4.10): the yield limit, rounded down, and the tangent modulus.
-#[derive(Drop)]
+#[derive(Clone, Copy)]
 pub struct Reading {
     pub limit: Magnitude,
     pub tangent: Modulus,

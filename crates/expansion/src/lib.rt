@@ -1,4 +1,6 @@
 // How much a rod expands with heat (SPEC 5.7): one coefficient, or points with a straight line from each to the next.
+#![tactic(auto)]
+
 ghost use Rattle.std.specs.Prelude.{◌≡◌, true, ◌+◌, ◌*◌, ◌^◌, ◌≤◌, ◌<◌, pos};
 ghost use Rattle.std.specs.Int.Signed.{le_z, lt_z};
 ghost use Rattle.fractions.specs.Rounding.{floor_f};
@@ -9,7 +11,7 @@ ghost use Rattle.expansion.specs.Coefficient.{line, coefficient_of};
 use units::{Expansion, Tenths};
 
 // A point (SPEC 3.9): the coefficient at a temperature.
-#[derive(Drop)]
+#[derive(Clone, Copy)]
 pub struct Point {
     pub temperature: Tenths,
     pub coefficient: Expansion,
@@ -22,7 +24,7 @@ pub const MOST_POINTS: usize = 8;
 pub const NEVER_REACHED: i64 = ranges::MOST_TEMPERATURE + 1;
 
 // What a sheet says of expansion (SPEC 3.9): `count` points, or where there is none the single number.
-#[derive(Drop)]
+#[derive(Clone, Copy)]
 pub struct Coefficients {
     pub single: Expansion,
     pub count: usize,

@@ -1,5 +1,7 @@
 // A grading as C calls it (SPEC 9.10, 17.6): thin above the entry of its name. It has an archive of its own, since in one archive with the
 // runs it would make them slower (DECISIONS.md, Speed).
+#![tactic(auto)]
+
 ghost use Rattle.std.specs.Prelude.{◌≡◌, ◌≤◌, ◌<◌};
 ghost use Rattle.refusals.specs.Table.{in_one_number};
 ghost use Rattle.ranges.specs.Ranges.{most_pairs};

@@ -1,4 +1,6 @@
 // Judging a sheet and a state (SPEC 8.9): the number of the sheet's verdict, and then 4 to 6 or the rod that passed.
+#![tactic(auto)]
+
 ghost use Rattle.std.specs.Prelude.{◌≡◌};
 ghost use Rattle.refusals.specs.Table.{first_of};
 ghost use Rattle.sheet.specs.Sheets.{verdict_number};
@@ -16,14 +18,14 @@ use state::StateRead;
 use units::{Grain, Magnitude, Nano, Tenths};
 
 // A refusal's number, or 0 with the rod that passed.
-#[derive(Drop)]
+#[derive(Clone, Copy)]
 pub struct Judged {
     pub number: u64,
     pub reached: Reached,
 }
 
 // A sheet and a state judged together: a refusal's number, or 0 with what they hold.
-#[derive(Drop)]
+#[derive(Clone, Copy)]
 pub struct Standing {
     pub number: u64,
     pub sheet: Sheet,

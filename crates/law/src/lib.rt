@@ -1,8 +1,10 @@
 // The four laws (SPEC 1.3), and the two bits that name one in a sheet and in a state.
+#![tactic(auto)]
+
 ghost use Rattle.std.specs.Prelude.{◌≡◌, ◌<◌};
 ghost use Rattle.law.specs.Laws.{first_is_abscissa, has_second, law_of, number_of};
 
-#[derive(Drop)]
+#[derive(Clone, Copy)]
 pub enum Law {
     IsotropicLine,
     IsotropicCurve,

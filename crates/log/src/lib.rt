@@ -1,4 +1,6 @@
 // The log program's work (SPEC 12): a log's bytes in, its text out.
+#![tactic(auto)]
+
 mod lines; // lines.rt: the lines of the text
 pub mod print; // print.rt: standard input and output
 mod text; // text.rt: texts and numbers, appended to a buffer

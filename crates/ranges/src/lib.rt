@@ -1,4 +1,6 @@
 // The numbers that bound a field or a quantity (SPEC 3.6), each under one name. `specs/Ranges.antt` has the same for contracts.
+#![tactic(auto)]
+
 ghost use Rattle.std.specs.Prelude.{◌≡◌};
 ghost use Rattle.bits.specs.Field.{within, withinℤ};
 

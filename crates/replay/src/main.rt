@@ -1,4 +1,5 @@
 // Replays logs: prints the text of each log on standard input, where every log stands behind its length in two bytes.
+#![tactic(auto)]
 
 // As many logs as a replay takes.
 const MOST_LOGS: usize = 1000;

@@ -1,4 +1,6 @@
 // The law's answer to a trial stress (SPEC 7.11). Magnitude and sign are taken apart, a side is read on magnitudes, the sign is put back.
+#![tactic(auto)]
+
 mod reached; // reached.rt: the yield limits that a rod has reached
 
 ghost use Rattle.std.specs.Prelude.{◌≡◌, ◌+◌, ◌-◌, ◌≤◌, ◌<◌, ◌^◌, ltb, nat_abs};
@@ -19,7 +21,7 @@ use sheet::Sheet;
 use units::{Grain, Magnitude, Modulus};
 
 // What a flow leaves: the stress, the variable that moved (an abscissa or the kinematic centre), and the tangent modulus there.
-#[derive(Drop)]
+#[derive(Clone, Copy)]
 struct Flowed {
     stress: Grain,
     variable: Grain,
@@ -27,7 +29,7 @@ struct Flowed {
 }
 
 // What a pair leaves by the law (SPEC 7.6 to 7.8): its branch, the stress, both variables and the tangent modulus.
-#[derive(Drop)]
+#[derive(Clone, Copy)]
 pub struct Response {
     pub branch: Branch,
     pub stress: Grain,
@@ -37,7 +39,7 @@ pub struct Response {
 }
 
 // What the law moves.
-#[derive(Drop)]
+#[derive(Clone, Copy)]
 enum Motion {
     Still,
     Tension(Flowed),
@@ -46,14 +48,14 @@ enum Motion {
 
 // The yield limits at the abscissas of a rod, rounded down (SPEC 7.12). They are found once and kept up from pair to pair; one that the law
 // hasn't is 0.
-#[derive(Drop)]
+#[derive(Clone, Copy)]
 pub struct Limits {
     pub first: Magnitude,
     pub second: Magnitude,
 }
 
 // One side on magnitudes: whether it moved, and its new abscissa.
-#[derive(Drop)]
+#[derive(Clone, Copy)]
 enum SideFlow {
     Still,
     Grown(Magnitude),

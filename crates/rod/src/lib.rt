@@ -1,4 +1,6 @@
 // A rod: what it remembers, by value.
+#![tactic(auto)]
+
 use law::Law;
 use units::{Grain, Nano, Tenths};
 
@@ -9,7 +11,7 @@ mod unused; // unused.rt: the rod of a sheet before its first pair
 pub mod variables; // variables.rt: what the two variables are under each law
 
 // `yielded` is the last pair's. `first` is an abscissa or the kinematic centre, `second` the compression abscissa, or 0.
-#[derive(Drop)]
+#[derive(Clone, Copy)]
 pub struct Rod {
     pub law: Law,
     pub yielded: bool,

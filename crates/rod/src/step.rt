@@ -16,21 +16,21 @@ use sheet::Sheet;
 use units::{Grain, Nano};
 
 // The thermal strains before and after a pair (SPEC 5.1). Each is found once and goes along with the rod.
-#[derive(Drop)]
+#[derive(Clone, Copy)]
 pub struct ThermalStrains {
     pub before: Nano,
     pub after: Nano,
 }
 
 // The next state, with the row of the pair.
-#[derive(Drop)]
+#[derive(Clone, Copy)]
 pub struct Advance {
     pub rod: Rod,
     pub row: Row,
 }
 
 // What a step answers.
-#[derive(Drop)]
+#[derive(Clone, Copy)]
 pub enum Stepped {
     Advanced(Advance),
     StrainLeaves,

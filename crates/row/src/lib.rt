@@ -1,4 +1,6 @@
 // A row, what a pair gave in sixteen bytes (SPEC 3.14).
+#![tactic(auto)]
+
 ghost use Rattle.std.specs.Prelude.{◌≡◌, ◌+◌, ◌*◌, ◌^◌, ◌≤◌, ◌<◌, length, take, drop};
 ghost use Rattle.bits.specs.Layout.{filled, packed, put};
 ghost use Rattle.row.specs.Rows.{RowFits, row_bytes, row_layout, row_length, row_of, row_values};
@@ -38,7 +40,7 @@ const STRESS_LENGTH: usize = STRESS_WIDTH / 8;
 const LAST_WORD_AT: usize = ROW_LENGTH - 8;
 
 // `branch` says which way plastic strain went (SPEC 7.7), `plastic` is E times plastic strain (SPEC 5.4).
-#[derive(Drop)]
+#[derive(Clone, Copy)]
 pub struct Row {
     pub yielded: bool,
     pub branch: Branch,

@@ -1,4 +1,6 @@
 // A section (SPEC 15): rods of one sheet tied to one plate, moved together or not at all.
+#![tactic(auto)]
+
 pub mod entry; // entry.rt: the entry
 mod each; // each.rt: one rod of a section, by value
 mod together; // together.rt: all rods, decided first and then stored
@@ -8,7 +10,7 @@ use units::{Curvature, Nano, Tenths};
 
 // A rod of a section: its area in mm², its offset in mm, and its state. Firmware lends these, so they are laid out as C has them.
 #[repr(C)]
-#[derive(Drop)]
+#[derive(Clone, Copy)]
 pub struct Member {
     pub area: u64,
     pub offset: i64,
@@ -16,7 +18,7 @@ pub struct Member {
 }
 
 // What a section's plate does: mean strain and curvature change, and the temperature is a new one.
-#[derive(Drop)]
+#[derive(Clone, Copy)]
 pub struct Change {
     pub mean: Nano,
     pub curvature: Curvature,
@@ -24,14 +26,14 @@ pub struct Change {
 }
 
 // What every rod of a call is given: the sheet as read, and the change.
-#[derive(Drop)]
+#[derive(Clone, Copy)]
 pub struct Movement {
     pub sheet: Sheet,
     pub change: Change,
 }
 
 // What the rods looked at so far came to: number and place of a refusal, or force and moment, and how many rods there were.
-#[derive(Drop)]
+#[derive(Clone, Copy)]
 pub struct Tally {
     pub number: u64,
     pub place: u64,
@@ -41,14 +43,14 @@ pub struct Tally {
 }
 
 // What is decided before the first rod.
-#[derive(Drop)]
+#[derive(Clone, Copy)]
 pub struct Opening {
     pub movement: Movement,
     pub start: Tally,
 }
 
 // What a section answers: number and place, force in 10⁻³ N and moment in 10⁻³ N mm.
-#[derive(Drop)]
+#[derive(Clone, Copy)]
 pub struct SectionReply {
     pub number: u64,
     pub place: u64,

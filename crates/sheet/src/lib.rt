@@ -1,4 +1,6 @@
 // The material sheet: what it holds (SPEC 3.9), and its reader.
+#![tactic(auto)]
+
 mod layout; // layout.rt: where everything stands in the bytes
 
 ghost use Rattle.std.specs.Prelude.{◌≡◌, ◌+◌, ◌*◌, ◌≤◌, ◌<◌, [], true, cond, nat_abs, eqb};
@@ -21,7 +23,7 @@ use law::Law;
 use units::{Expansion, Length, Magnitude, Modulus, Nano, Tenths};
 
 // What a sheet that passes says: yields in grains, lengths in nano, tangents and Young's modulus in MPa.
-#[derive(Drop)]
+#[derive(Clone, Copy)]
 pub struct Sheet {
     pub law: Law,
     pub modulus: Modulus,
@@ -32,7 +34,7 @@ pub struct Sheet {
 }
 
 // What reading a sheet comes to.
-#[derive(Drop)]
+#[derive(Clone, Copy)]
 pub enum Verdict {
     Accepted,
     WrongLength,
@@ -42,14 +44,14 @@ pub enum Verdict {
 }
 
 // What reading a sheet answers: the sheet says something only where the verdict is that it was accepted.
-#[derive(Drop)]
+#[derive(Clone, Copy)]
 pub struct SheetRead {
     pub verdict: Verdict,
     pub sheet: Sheet,
 }
 
 // The law, how many segments each side has, and how many points there are.
-#[derive(Drop)]
+#[derive(Clone, Copy)]
 struct Counts {
     law: Law,
     tension: usize,
@@ -57,68 +59,68 @@ struct Counts {
     points: usize,
 }
 
-#[derive(Drop)]
+#[derive(Clone, Copy)]
 enum CountsRead {
     Right(Counts),
     OutOfRange,
 }
 
 // Young's modulus, the single expansion and the reference temperature.
-#[derive(Drop)]
+#[derive(Clone, Copy)]
 struct Constants {
     modulus: Modulus,
     expansion: Expansion,
     reference: Tenths,
 }
 
-#[derive(Drop)]
+#[derive(Clone, Copy)]
 enum ConstantsRead {
     Right(Constants),
     OutOfRange,
 }
 
 // The yield stress of each side.
-#[derive(Drop)]
+#[derive(Clone, Copy)]
 struct Yields {
     tension: Magnitude,
     compression: Magnitude,
 }
 
-#[derive(Drop)]
+#[derive(Clone, Copy)]
 enum YieldsRead {
     Right(Yields),
     OutOfRange,
 }
 
 // All that stands in front of the segments.
-#[derive(Drop)]
+#[derive(Clone, Copy)]
 struct Header {
     counts: Counts,
     constants: Constants,
     yields: Yields,
 }
 
-#[derive(Drop)]
+#[derive(Clone, Copy)]
 enum HeaderRead {
     Right(Header),
     OutOfRange,
 }
 
 // The segments of a side, and whether their lengths are right.
-#[derive(Drop)]
+#[derive(Clone, Copy)]
 struct SegmentsRead {
     segments: [Segment; curve::MOST_SEGMENTS],
     right: bool,
 }
 
-#[derive(Drop)]
+#[derive(Clone, Copy)]
 enum PointRead {
     Right(Point),
     OutOfRange,
 }
 
 // The points, and whether their fields are right.
-#[derive(Drop)]
+#[derive(Clone, Copy)]
 struct PointsRead {
     points: [Point; expansion::MOST_POINTS],
     right: bool,

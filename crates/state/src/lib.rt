@@ -1,4 +1,6 @@
 // A rod in bytes (SPEC 3.11): its reader and its writer.
+#![tactic(auto)]
+
 mod fields; // fields.rt: the readers of single fields
 mod layout; // layout.rt: where everything stands in the bytes
 
@@ -16,7 +18,7 @@ use units::{Grain, Nano, Tenths};
 pub const STATE_LENGTH: usize = layout::STATE_LENGTH;
 
 // What reading a state answers.
-#[derive(Drop)]
+#[derive(Clone, Copy)]
 pub enum StateRead {
     Accepted(Rod),
     WrongLength,

@@ -1,4 +1,6 @@
 // The entries as C calls them (SPEC 9.10): each is thin above the entry of its name.
+#![tactic(auto)]
+
 ghost use Rattle.std.specs.Prelude.{◌≡◌, ◌≤◌, ◌<◌};
 ghost use Rattle.refusals.specs.Table.{in_one_number};
 ghost use Rattle.ranges.specs.Ranges.{most_pairs};

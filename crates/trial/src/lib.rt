@@ -1,5 +1,7 @@
 // A pair tried on bytes, and the keeping of its trial (SPEC 16). A trial is the single pair, by which nothing of the caller's has moved
 // yet; its keeping hands the next state on.
+#![tactic(auto)]
+
 ghost use Rattle.std.specs.Prelude.{◌≡◌, ◌+◌, ◌≤◌, ◌<◌, length};
 ghost use Rattle.refusals.specs.Table.{first_of, numbered};
 ghost use Rattle.bits.specs.Layout.{put};

@@ -1,40 +1,42 @@
 // The kinds of quantity (SPEC 2.2, 2.3). A sum or a difference stays in its kind; only a modulus leads from strain to stress; an expansion
 // leads from temperature to strain, and a curvature from an offset.
+#![tactic(auto)]
+
 ghost use Rattle.std.specs.Prelude.{◌≡◌, ◌+◌, ◌-◌, ◌*◌, ◌/◌, ◌^◌, ◌≤◌, ◌<◌, leb, ltb, true, pos, nat_abs, ◌+ℤ◌, ◌-ℤ◌, ◌*ℤ◌};
 ghost use Rattle.std.specs.Int.Signed.{le_z, lt_z};
 ghost use Rattle.units.specs.Kinds.{nano, grain, tenths, length_of, magnitude};
 ghost use Rattle.units.specs.Signs.{is_neg, with_sign};
 
 // Strain, in 10⁻⁹.
-#[derive(Drop)]
+#[derive(Clone, Copy)]
 pub struct Nano(pub i64);
 
 // Stress, in grains: 10⁻⁹ MPa.
-#[derive(Drop)]
+#[derive(Clone, Copy)]
 pub struct Grain(pub i64);
 
 // Temperature, in tenths of a degree Celsius.
-#[derive(Drop)]
+#[derive(Clone, Copy)]
 pub struct Tenths(pub i64);
 
 // The length of a segment, or the magnitude of a strain, in nano.
-#[derive(Drop)]
+#[derive(Clone, Copy)]
 pub struct Length(pub u64);
 
 // Grains that have no sign: the magnitude of a stress, a yield stress, a yield limit, an abscissa.
-#[derive(Drop)]
+#[derive(Clone, Copy)]
 pub struct Magnitude(pub u64);
 
 // A modulus, in MPa.
-#[derive(Drop)]
+#[derive(Clone, Copy)]
 pub struct Modulus(pub u64);
 
 // Thermal expansion, in nano per tenth of a degree.
-#[derive(Drop)]
+#[derive(Clone, Copy)]
 pub struct Expansion(pub u64);
 
 // Curvature of a section, in nano per mm.
-#[derive(Drop)]
+#[derive(Clone, Copy)]
 pub struct Curvature(pub i64);
 
 impl Nano {

@@ -1,9 +1,0 @@
-use borrow.Author.Rules.{rules}
-use Rattle.sheet.proofs.read_length.Statement.{statement}
-use Rattle.sheet.proofs.read_length.Tie as tie
-
-returns : tie.Need-returns
-returns c = rw c.before.segment-at.ensures.0 at c.read-unsigned.ensures
-
-pub read-length-spec : {M : Type 1} → statement M
-read-length-spec = tie.close (tie.spec (λ c κs. search rules) (λ c. search rules) (λ c κs. search rules) returns)
