@@ -19,6 +19,8 @@ DECLARED = re.compile(r"^\s*((?:(?:pub|abbrev|unfoldable|private)\s+)*)((?:recor
 OUR = {os.path.basename(os.path.dirname(p)) for p in glob.glob("crates/*/src")}
 # Names that port.py had given before, and that a definition takes now: the lemma gets the suffix.
 THERE = ["told_of", "no_second", "told_in", "all_right", "limits_of", "carried_on", "start_at"]
+# Arguments of definitions and lemmas.
+LOCAL = ["limitT", "limitC", "floorT", "floorC", "storedA", "storedB", "tangentsT", "tangentsC", "lengthsT", "lengthsC", "isAbscissa"]
 SKIP = {"use", "module", "infix", "infixl", "infixr", "where", "let", "in", "elim", "record", "unfolding", "open"}
 
 
@@ -32,7 +34,7 @@ def declared():
     """Names that lemma files and definitions declare: at the top, in a module _ block, as a field or as a constructor."""
     names = collections.OrderedDict()
     for p in lemma_files():
-        if os.path.basename(p) in ("Proof.antt", "Answers.antt", "Invariants.antt"):
+        if "/proofs/" in p and os.path.basename(p) in ("Proof.antt", "Answers.antt", "Invariants.antt"):
             continue
         kind, depth = None, 0
         for line in open(p, encoding="utf-8"):
@@ -143,6 +145,8 @@ def final():
     for n in THERE:
         if n in out.values():
             out[n] = n + "_lem"
+    for n in LOCAL:
+        out[n] = respelled(n)
     return out
 
 

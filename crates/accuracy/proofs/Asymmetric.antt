@@ -185,39 +185,39 @@ module _ {tension compression : Side} (curve : Hardens tension) (curve' : Harden
 
 module _ {tension compression : Side} (curve : Hardens tension) (curve' : Hardens compression) (flat : Flattens tension)
     (flat' : Flattens compression)
-    {limitT limitC : ℕ → ℕ} (floorT : (a : ℕ) → LimitRounded tension (pos a) (limitT a)) (floorC : (a : ℕ) → LimitRounded compression (pos a) (limitC a))
+    {limit_t limit_c : ℕ → ℕ} (floor_t : (a : ℕ) → LimitRounded tension (pos a) (limit_t a)) (floor_c : (a : ℕ) → LimitRounded compression (pos a) (limit_c a))
     {k A B : ℕ} {trial exact-A exact-B stress A' B' : Frac} (c : LimitClose tension k A exact-A) (c' : LimitClose compression k B exact-B)
     (e : Exact tension compression trial exact-A exact-B stress A' B') where
-  up_close : (m : ℕ) → Within k (whole (pos m)) trial → UpClose tension compression k (side_stored limitT m A) B stress A' B'
-  up_close m near = ⊎_elim (both_up curve curve' flat floorT m near c c') (up_and_down curve curve' flat floorT m near c c') e
+  up_close : (m : ℕ) → Within k (whole (pos m)) trial → UpClose tension compression k (side_stored limit_t m A) B stress A' B'
+  up_close m near = ⊎_elim (both_up curve curve' flat floor_t m near c c') (up_and_down curve curve' flat floor_t m near c c') e
 
   -- A negative trial: the same with the sides exchanged and the bar's numbers negated.
-  down_close : (m : ℕ) → Within k (whole (pos m)) (neg_f trial) → UpClose compression tension k (side_stored limitC m B) A (neg_f stress) B' A'
+  down_close : (m : ℕ) → Within k (whole (pos m)) (neg_f trial) → UpClose compression tension k (side_stored limit_c m B) A (neg_f stress) B' A'
   down_close m near = ⊎_elim from_up from_down e
     where
-      from_up : ExactUp tension compression trial exact-A exact-B stress A' B' → UpClose compression tension k (side_stored limitC m B) A
+      from_up : ExactUp tension compression trial exact-A exact-B stress A' B' → UpClose compression tension k (side_stored limit_c m B) A
           (neg_f stress) B' A'
       from_up up =
-          up_and_down curve' curve flat' floorC m near c' c
+          up_and_down curve' curve flat' floor_c m near c' c
           (record { trial_down = trial; stress_down = stress; trial_negated = negated_twice trial; stress_negated = negated_twice stress; up = up })
 
-      from_down : ExactDown tension compression trial exact-A exact-B stress A' B' → UpClose compression tension k (side_stored limitC m B) A
+      from_down : ExactDown tension compression trial exact-A exact-B stress A' B' → UpClose compression tension k (side_stored limit_c m B) A
           (neg_f stress) B' A'
       from_down d =
-          let (stresses, limits, limits') = both_up curve' curve flat' floorC m
+          let (stresses, limits, limits') = both_up curve' curve flat' floor_c m
           (within_same near (≈F-refl (whole (pos m))) (≈F-sym d.trial_negated)) c' c d.up in
-          (within_same stresses (≈F-refl (whole (pos (side_stored limitC m B).magnitude))) d.stress_negated, limits, limits')
+          (within_same stresses (≈F-refl (whole (pos (side_stored limit_c m B).magnitude))) d.stress_negated, limits, limits')
 
 pub asymmetric_stays_close : {tension compression : Side} → Hardens tension → Hardens compression → Flattens tension → Flattens compression
-    → {limitT limitC : ℕ → ℕ} → ((a : ℕ) → LimitRounded tension (pos a) (limitT a)) → ((a : ℕ) → LimitRounded compression (pos a) (limitC a))
+    → {limit_t limit_c : ℕ → ℕ} → ((a : ℕ) → LimitRounded tension (pos a) (limit_t a)) → ((a : ℕ) → LimitRounded compression (pos a) (limit_c a))
     → {k : ℕ} {stress : ℤ} {A B : ℕ} {exact-stress exact-A exact-B : Frac}
     → AsymmetricClose tension compression k stress A B exact-stress exact-A exact-B → (w : ℤ)
-    → let stored = asymmetric_stored limitT limitC (stress +ℤ w) A B in
+    → let stored = asymmetric_stored limit_t limit_c (stress +ℤ w) A B in
     let exact = asymmetric tension compression (exact-stress +F whole w) exact-A exact-B in
     AsymmetricClose tension compression (k + flag stored.yielded) stored.stress stored.tension stored.compression
     exact.stress exact.tension exact.compression
 unfolding asymmetric_stored
-asymmetric_stays_close {tension} {compression} curve curve' flat flat' {limitT} {limitC} floorT floorC {k} {stress} {A} {B} {exact-stress} {exact-A} {exact-B} c w =
+asymmetric_stays_close {tension} {compression} curve curve' flat flat' {limit_t} {limit_c} floor_t floor_c {k} {stress} {A} {B} {exact-stress} {exact-A} {exact-B} c w =
     go (stress +ℤ w) (within_add stress w c.stress_close)
   where
     trial : Frac
@@ -230,18 +230,18 @@ asymmetric_stays_close {tension} {compression} curve curve' flat flat' {limitT} 
     e = exact_cases curve curve' trial exact-A exact-B c.tension_close.exact_past c.compression_close.exact_past
 
     go : (s : ℤ) → Within k (whole s) trial
-        → let stored = asymmetric_stored limitT limitC s A B in
+        → let stored = asymmetric_stored limit_t limit_c s A B in
         AsymmetricClose tension compression (k + flag stored.yielded) stored.stress stored.tension stored.compression
         m.stress m.tension m.compression
     go (pos n) near =
-        let (stresses, limits, limits') = up_close curve curve' flat flat' floorT floorC c.tension_close c.compression_close e n near in
+        let (stresses, limits, limits') = up_close curve curve' flat flat' floor_t floor_c c.tension_close c.compression_close e n near in
         record { stress_close = stresses; tension_close = limits; compression_close = limits' }
     go (negsuc n) near =
-        let (stresses, limits, limits') = down_close curve curve' flat flat' floorT floorC c.tension_close c.compression_close e
+        let (stresses, limits, limits') = down_close curve curve' flat flat' floor_t floor_c c.tension_close c.compression_close e
         (suc n) (rw whole_neg at (within_neg near)) in
         record {
           stress_close = within_same (rw whole_neg at (within_neg stresses))
-              (≈F-refl (whole (neg_ℤ (pos (side_stored limitC (suc n) B).magnitude)))) (≈F-sym (negated_twice m.stress));
+              (≈F-refl (whole (neg_ℤ (pos (side_stored limit_c (suc n) B).magnitude)))) (≈F-sym (negated_twice m.stress));
           tension_close = limits';
           compression_close = limits;
         }

@@ -43,34 +43,34 @@ tension_rounded {tension} {compression} curve curve' floor A B m p p' {q} {A'} {
           (is_lt (is_whole (pos 0) t.some) r).0 (limit_positive curve' p'),
         ))
 
-pub asymmetric_rounded : {tension compression : Side} → Hardens tension → Hardens compression → {limitT limitC : ℕ → ℕ}
-    → ((a : ℕ) → LimitRounded tension (pos a) (limitT a)) → ((a : ℕ) → LimitRounded compression (pos a) (limitC a)) → (A B : ℕ)
+pub asymmetric_rounded : {tension compression : Side} → Hardens tension → Hardens compression → {limit_t limit_c : ℕ → ℕ}
+    → ((a : ℕ) → LimitRounded tension (pos a) (limit_t a)) → ((a : ℕ) → LimitRounded compression (pos a) (limit_c a)) → (A B : ℕ)
     → tension.yield ≤F whole (pos A) → compression.yield ≤F whole (pos B) → (trial : ℤ) {q A' B' : Frac}
     → Asymmetric tension compression (whole trial) (whole (pos A)) (whole (pos B)) q A' B'
-    → let stored = asymmetric_stored limitT limitC trial A B in
+    → let stored = asymmetric_stored limit_t limit_c trial A B in
     AsymmetricRounded tension compression (whole (pos A)) (whole (pos B)) q A' B' stored.stress (pos stored.tension) (pos stored.compression)
     × ((stored.yielded ≡ true)
     ↔ ((accumulated tension (whole (pos A)) <F accumulated tension A') ⊎ (accumulated compression (whole (pos B)) <F accumulated compression B')))
 unfolding asymmetric_stored
-asymmetric_rounded curve curve' {limitT} {limitC} floorT floorC A B p p' (pos m) {q} s =
-    let (r, kept, stays) = tension_rounded curve curve' floorT A B m p p' s in (
+asymmetric_rounded curve curve' {limit_t} {limit_c} floor_t floor_c A B p p' (pos m) {q} s =
+    let (r, kept, stays) = tension_rounded curve curve' floor_t A B m p p' s in (
       record {
         tension_abscissa = r.abscissa;
         compression_abscissa = kept;
-        tension_grown = λ g. ((side_stored limitT m A).magnitude, r.grown g, refl);
+        tension_grown = λ g. ((side_stored limit_t m A).magnitude, r.grown g, refl);
         compression_grown = λ g. absurd (stays g);
         still = λ g g'. r.still g;
       },
       (λ y. inl (r.yields.0 y), ⊎_elim r.yields.1 (λ g. absurd (stays g))),
     )
-asymmetric_rounded curve curve' {limitT} {limitC} floorT floorC A B p p' (negsuc n) {q} s =
-    let (r, kept, stays) = tension_rounded curve' curve floorC B A (suc n) p' p (rw whole_neg at (mirrored s)) in (
+asymmetric_rounded curve curve' {limit_t} {limit_c} floor_t floor_c A B p p' (negsuc n) {q} s =
+    let (r, kept, stays) = tension_rounded curve' curve floor_c B A (suc n) p' p (rw whole_neg at (mirrored s)) in (
       record {
         tension_abscissa = kept;
         compression_abscissa = r.abscissa;
         tension_grown = λ g. absurd (stays g);
-        compression_grown = λ g. ((side_stored limitC (suc n) B).magnitude, r.grown g, refl);
-        still = λ g g'. ≈F-trans (negated_twice q) (rw (← whole_neg (pos (side_stored limitC (suc n) B).magnitude)) (neg_same (r.still g')));
+        compression_grown = λ g. ((side_stored limit_c (suc n) B).magnitude, r.grown g, refl);
+        still = λ g g'. ≈F-trans (negated_twice q) (rw (← whole_neg (pos (side_stored limit_c (suc n) B).magnitude)) (neg_same (r.still g')));
       },
       (λ y. inr (r.yields.0 y), ⊎_elim (λ g. absurd (stays g)) r.yields.1),
     )

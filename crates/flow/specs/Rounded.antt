@@ -30,10 +30,10 @@ pub record KinematicRounded (yield : ℕ) (trial X : ℤ) (q X' growth : Frac) (
   pub still : growth ≤F whole (pos 0) → (X' ≈F whole stored) × (q ≈F whole stress)
 
 -- SPEC 7.4, 7.5, asymmetric, for the candidate (q, A', B'): the side that flowed as in the isotropic law, the other one as it was.
-pub record AsymmetricRounded (tension compression : Side) (A B q A' B' : Frac) (stress storedA storedB : ℤ) : Type 0 where
-  pub tension_abscissa : AbscissaRounded tension A A' storedA
-  pub compression_abscissa : AbscissaRounded compression B B' storedB
-  pub tension_grown : accumulated tension A <F accumulated tension A' → (R : ℕ) × LimitRounded tension storedA R × (stress ≡ pos R)
+pub record AsymmetricRounded (tension compression : Side) (A B q A' B' : Frac) (stress stored_a stored_b : ℤ) : Type 0 where
+  pub tension_abscissa : AbscissaRounded tension A A' stored_a
+  pub compression_abscissa : AbscissaRounded compression B B' stored_b
+  pub tension_grown : accumulated tension A <F accumulated tension A' → (R : ℕ) × LimitRounded tension stored_a R × (stress ≡ pos R)
   pub compression_grown : accumulated compression B <F accumulated compression B'
-      → (R : ℕ) × LimitRounded compression storedB R × (stress ≡ neg_ℤ (pos R))
+      → (R : ℕ) × LimitRounded compression stored_b R × (stress ≡ neg_ℤ (pos R))
   pub still : accumulated tension A' ≤F accumulated tension A → accumulated compression B' ≤F accumulated compression B → q ≈F whole stress

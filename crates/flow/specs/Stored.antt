@@ -51,10 +51,10 @@ pub record AsymmetricStored : Type 0 where
   pub compression : ℕ
 
 -- SPEC 7.11: the side of the trial's sign, on magnitudes; the other one stays as it was.
-unfoldable pub asymmetric_stored : (limitT limitC : ℕ → ℕ) → (trial : ℤ) → (A B : ℕ) → AsymmetricStored
-asymmetric_stored limitT limitC (pos m) A B =
-    let side = side_stored limitT m A in
+unfoldable pub asymmetric_stored : (limit_t limit_c : ℕ → ℕ) → (trial : ℤ) → (A B : ℕ) → AsymmetricStored
+asymmetric_stored limit_t limit_c (pos m) A B =
+    let side = side_stored limit_t m A in
     record { yielded = side.yielded; stress = pos side.magnitude; tension = side.abscissa; compression = B }
-asymmetric_stored limitT limitC (negsuc n) A B =
-    let side = side_stored limitC (suc n) B in
+asymmetric_stored limit_t limit_c (negsuc n) A B =
+    let side = side_stored limit_c (suc n) B in
     record { yielded = side.yielded; stress = neg_ℤ (pos side.magnitude); tension = A; compression = side.abscissa }

@@ -8,9 +8,9 @@ pub record GradeSeen : Type 0 where
   pub answer : ℕ
   pub row : ℕ
 
-abbrev pub gradeSeen : (answer row : ℕ) → GradeSeen
-gradeSeen answer row = record { answer = answer; row = row }
+abbrev pub grade_seen : (answer row : ℕ) → GradeSeen
+grade_seen answer row = record { answer = answer; row = row }
 
 -- SPEC 17.6: number and place as one number, and the row.
-abbrev pub gradeSeenOf : Verdict → GradeSeen
-gradeSeenOf v = gradeSeen (in_one_number v.number v.place) v.row
+abbrev pub grade_seen_of : Verdict → GradeSeen
+grade_seen_of v = grade_seen (in_one_number v.number v.place) v.row

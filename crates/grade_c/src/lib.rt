@@ -6,7 +6,7 @@ ghost use Rattle.std.specs.Prelude.{◌≡◌, ◌≤◌, ◌<◌};
 ghost use Rattle.refusals.specs.Table.{in_one_number};
 ghost use Rattle.ranges.specs.Ranges.{most_pairs};
 ghost use Rattle.grade.specs.Grades.{grade_meaning, grade_of, grading};
-ghost use Rattle.grade_c.specs.Answers.{gradeSeen, gradeSeenOf};
+ghost use Rattle.grade_c.specs.Answers.{grade_seen, grade_seen_of};
 
 use grade::Grade;
 
@@ -29,7 +29,7 @@ pub extern "C" fn tie_rod_grade(
     tolerance: i64,
     row: &mut u64,
 ) -> u64
-    ensures { gradeSeen result row.new ≡ gradeSeenOf (grade_of sheet.now state.now (grading pairs.now rows.now tolerance)) }
+    ensures { grade_seen result row.new ≡ grade_seen_of (grade_of sheet.now state.now (grading pairs.now rows.now tolerance)) }
 {
     let grade = grade::entry::grade(sheet, state, pairs, rows, tolerance);
     *row = grade.row() as u64;

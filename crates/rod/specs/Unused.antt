@@ -7,7 +7,7 @@ use Rattle.law.specs.Laws.{first_is_abscissa, has_second}
 
 -- SPEC 3.15: a variable of an unused rod: the yield of its side where it is an abscissa, else 0.
 abbrev pub start_of : Bool → ℕ → ℤ
-start_of isAbscissa yield = cond isAbscissa (pos yield) (pos 0)
+start_of is_abscissa yield = cond is_abscissa (pos yield) (pos 0)
 
 -- SPEC 3.15: the unused rod, which is the papers' term.
 unfoldable pub unused_of : Sheet → Rod

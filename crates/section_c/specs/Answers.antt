@@ -11,8 +11,8 @@ pub record SectionSeen : Type 0 where
   pub moment : ℤ
   pub members : List Member
 
-abbrev pub sectionSeen : (answer : ℕ) → (force moment : ℤ) → (members : List Member) → SectionSeen
-sectionSeen answer force moment members = record { answer = answer; force = force; moment = moment; members = members }
+abbrev pub section_seen : (answer : ℕ) → (force moment : ℤ) → (members : List Member) → SectionSeen
+section_seen answer force moment members = record { answer = answer; force = force; moment = moment; members = members }
 
-abbrev pub sectionSeenOf : SectionLeft → SectionSeen
-sectionSeenOf l = sectionSeen (in_one_number l.reply.number l.reply.place) l.reply.force l.reply.moment l.members
+abbrev pub section_seen_of : SectionLeft → SectionSeen
+section_seen_of l = section_seen (in_one_number l.reply.number l.reply.place) l.reply.force l.reply.moment l.members

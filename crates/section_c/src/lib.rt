@@ -6,7 +6,7 @@ ghost use Rattle.std.specs.Prelude.{◌≡◌, ◌≤◌, ◌<◌};
 ghost use Rattle.refusals.specs.Table.{in_one_number};
 ghost use Rattle.ranges.specs.Ranges.{most_rods};
 ghost use Rattle.section.specs.Sections.{change_of, section_leaves};
-ghost use Rattle.section_c.specs.Answers.{sectionSeen, sectionSeenOf};
+ghost use Rattle.section_c.specs.Answers.{section_seen, section_seen_of};
 
 use section::{Member, SectionReply};
 
@@ -29,7 +29,7 @@ pub extern "C" fn tie_rod_section(
     force: &mut i64,
     moment: &mut i64,
 ) -> u64
-    ensures { sectionSeen result force.new moment.new members.new ≡ sectionSeenOf (section_leaves sheet.now (change_of mean curvature temperature) members.old) }
+    ensures { section_seen result force.new moment.new members.new ≡ section_seen_of (section_leaves sheet.now (change_of mean curvature temperature) members.old) }
 {
     let reply = section::entry::section(sheet, members, mean, curvature, temperature);
     *force = reply.force;

@@ -165,7 +165,7 @@ values_sound : (s : List ℕ) → sheet_counts_right s ≡ true → constants_ri
     → tangents_right s 0 (tension_count s) ≡ true → tangents_right s (tension_count s) (compression_count s) ≡ true → temperatures_rise (points_in s) ≡ true
     → SheetSound (sheet_of s)
 unfolding sheet_counts_right constants_right yields_right sheet_of
-values_sound s counts constants yields lengthsT lengthsC points tangentsT tangentsC rise =
+values_sound s counts constants yields lengths_t lengths_c points tangents_t tangents_c rise =
     let counted = three_hold (within 1 (most_tension (law_in s)) (tension_count s)) (eqb (compression_count s) (compression_of (law_in s))) (within 0 most_points (point_count s)) counts in
     let constant = three_hold (within 1 most_modulus (modulus_in s)) (expansion_right (point_count s) (expansion_in s)) (temperature_right (reference_in s)) constants in
     let yield = three_hold (eqb (header_zero_bits s) 0) (within 1 most_yield (tension_yield s)) (compression_yield_right (law_in s) (compression_yield s)) yields in
@@ -176,10 +176,10 @@ values_sound s counts constants yields lengthsT lengthsC points tangentsT tangen
       modulus_most = modulus.1;
       expansion = coefficients_usable s counted.2 constant.1 points rise;
       reference_right = constant.2;
-      tension = side_sound s (tension_yield s) 0 (tension_count s) some.0 (few_segments s).0 yield.1 lengthsT tangentsT;
+      tension = side_sound s (tension_yield s) 0 (tension_count s) some.0 (few_segments s).0 yield.1 lengths_t tangents_t;
       compression = λ a.
           let there = compression_there (law_in s) (compression_count s) (compression_yield s) counted.1 yield.2 a in
-          side_sound s (compression_yield s) (tension_count s) (compression_count s) there.0 (few_segments s).1 there.1 lengthsC tangentsC;
+          side_sound s (compression_yield s) (tension_count s) (compression_count s) there.0 (few_segments s).1 there.1 lengths_c tangents_c;
       one_segment = one_of_kinematic (law_in s) (tension_count s) counted.0;
     }
 

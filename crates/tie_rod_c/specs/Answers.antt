@@ -13,20 +13,20 @@ pub record Seen : Type 0 where
 abbrev pub seen : (answer : ℕ) → (rows next : List ℕ) → Seen
 seen answer rows next = record { answer = answer; rows = rows; next = next }
 
-abbrev pub seenOf : Left → Seen
-seenOf l = seen (in_one_number l.reply.number l.reply.place) l.rows l.next
+abbrev pub seen_of : Left → Seen
+seen_of l = seen (in_one_number l.reply.number l.reply.place) l.rows l.next
 
 -- SPEC 9.10, 16.6: what a trial leaves, as C sees it: the same, and the bytes for a keeping.
 pub record TrialSeen : Type 0 where
   pub seen : Seen
   pub trial : List ℕ
 
-abbrev pub trialSeen : Seen → (trial : List ℕ) → TrialSeen
-trialSeen seen trial = record { seen = seen; trial = trial }
+abbrev pub trial_seen : Seen → (trial : List ℕ) → TrialSeen
+trial_seen seen trial = record { seen = seen; trial = trial }
 
-abbrev pub trialSeenOf : TrialLeft → TrialSeen
-trialSeenOf l = trialSeen (seenOf l.left) l.bytes
+abbrev pub trial_seen_of : TrialLeft → TrialSeen
+trial_seen_of l = trial_seen (seen_of l.left) l.bytes
 
 -- SPEC 9.10: number + 256 · tangent, for a forecast.
-abbrev pub forecastInOneNumber : Answer ℕ → ℕ
-forecastInOneNumber a = answer_number a + 256 * tangent_told a
+abbrev pub forecast_in_one_number : Answer ℕ → ℕ
+forecast_in_one_number a = answer_number a + 256 * tangent_told a

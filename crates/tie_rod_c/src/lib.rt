@@ -6,7 +6,7 @@ ghost use Rattle.refusals.specs.Table.{in_one_number};
 ghost use Rattle.ranges.specs.Ranges.{most_pairs};
 ghost use Rattle.tie_rod.specs.Calls.{answer_number, call, call_leaves, forecast_answer, run, single, unused_answer, unused_left};
 ghost use Rattle.trial.specs.Trials.{keep_leaves, kept, trial_leaves, trial_with};
-ghost use Rattle.tie_rod_c.specs.Answers.{forecastInOneNumber, seen, seenOf, trialSeen, trialSeenOf};
+ghost use Rattle.tie_rod_c.specs.Answers.{forecast_in_one_number, seen, seen_of, trial_seen, trial_seen_of};
 
 use tie_rod::entry::ForecastRead;
 use tie_rod::{Reply, entry};
@@ -29,7 +29,7 @@ pub extern "C" fn tie_rod_run(
     rows: &mut [u8],
     next: &mut [u8],
 ) -> u64
-    ensures { seen result rows.new next.new ≡ seenOf (call_leaves sheet.now state.now (call run pairs.now rows.old next.old)) }
+    ensures { seen result rows.new next.new ≡ seen_of (call_leaves sheet.now state.now (call run pairs.now rows.old next.old)) }
 {
     pack(entry::run_bytes(sheet, state, pairs, rows, next))
 }
@@ -43,7 +43,7 @@ pub extern "C" fn tie_rod_pair(
     rows: &mut [u8],
     next: &mut [u8],
 ) -> u64
-    ensures { seen result rows.new next.new ≡ seenOf (call_leaves sheet.now state.now (call single pair.now rows.old next.old)) }
+    ensures { seen result rows.new next.new ≡ seen_of (call_leaves sheet.now state.now (call single pair.now rows.old next.old)) }
 {
     pack(entry::pair_bytes(sheet, state, pair, rows, next))
 }
@@ -58,7 +58,7 @@ pub extern "C" fn tie_rod_trial(
     next: &mut [u8],
     trial: &mut [u8; 75],
 ) -> u64
-    ensures { trialSeen (seen result row.new next.new) trial.new ≡ trialSeenOf (trial_leaves sheet.now state.now (trial_with pair.now row.old next.old)) }
+    ensures { trial_seen (seen result row.new next.new) trial.new ≡ trial_seen_of (trial_leaves sheet.now state.now (trial_with pair.now row.old next.old)) }
 {
     pack(trial::trial(sheet, state, pair, row, next, trial))
 }
@@ -74,7 +74,7 @@ pub extern "C" fn tie_rod_keep(trial: &[u8; 75], state: &[u8], next: &mut [u8]) 
 // The tangent modulus that a state forecasts (SPEC 9.8).
 #[unsafe(no_mangle)]
 pub extern "C" fn tie_rod_forecast(sheet: &[u8], state: &[u8]) -> u64
-    ensures { result ≡ forecastInOneNumber (forecast_answer sheet.now state.now) }
+    ensures { result ≡ forecast_in_one_number (forecast_answer sheet.now state.now) }
 {
     match entry::forecast(sheet, state) {
         ForecastRead::Tangent(tangent) => 256 * tangent.0,
