@@ -1,7 +1,10 @@
-use Rattle.std.proofs.Common.{arith, rules, ◌≡◌, ◌-◌, ◌*◌, ◌<◌, ◌≤◌, ◌^◌, length, inl, inr, ap, refl}
+use Rattle.std.proofs.Common.{arith, rules, ◌≡◌, ◌+◌, ◌-◌, ◌*◌, ◌<◌, ◌≤◌, ◌^◌, length, inl, inr, ap, refl}
 use Rattle.units.specs.declared.Magnitude.{Magnitude}
-use Rattle.curve.specs.Sides.{length_at, tangent_of}
+use Rattle.curve.specs.Carried.{span_at, Carries}
+use Rattle.curve.specs.Sides.{curve_of, length_at, tangent_of}
 use Rattle.curve.proofs.Walk.{begun, onward, stop}
+use Rattle.curve.proofs.Side.walk.Given.{Live-loop-i}
+use Rattle.curve.proofs.Side.walk.Invariants.{invariant-loop-i}
 use Rattle.curve.proofs.Side.walk.Goals as goal
 
 pub loop-i-init : goal.loop-i-init
@@ -31,3 +34,10 @@ returns-clause-value c =
     let inv = c.loop-i.invariant in
     let at_last : c.args.self.count - 1 ≡ c.loop-i.i = omega (arith, inv.index, c.loop-i-test.false) in
     (stop inv (inl (omega (arith, inv.index, at_last))) c.reading-2.result (rw (c.plus-2.ensures, at_last) at c.reading-2.ensures) c.args.abscissa refl).0
+
+-- SPEC 4.11: the loop begins with the invariant and keeps it from turn to turn. By it each i that the loop reaches is a segment of the side,
+-- what is carried there is T at its start less the yield, and what is left of the abscissa lies beyond that start.
+pub walk-carries : goal.loop-i-init × goal.loop-i-preserved × ((l : Live-loop-i) → invariant-loop-i l → (some : 0 < l.modulus.0)
+    → let E = l.modulus.0 in let curve = curve_of l.self in
+    (l.i < l.self.count) × Carries E some curve l.i l.rise.0 × ((span_at E curve l.i).start + l.past.0 ≡ l.fn.abscissa.0))
+walk-carries = (loop-i-init, loop-i-preserved, λ l inv some. (inv.index, inv.carries some, inv.lies))
