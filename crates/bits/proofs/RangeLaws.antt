@@ -10,9 +10,7 @@ use lib.IntN.{ℤ}
 use lib.Dec.{eqb, leb}
 use borrow.Author.Tests.{le-leb, lt-leb, eq-eqb, ne_eqb}
 use Rattle.bits.specs.declared.Unsigned.{Unsigned}
-use Rattle.bits.specs.declared.Unsigned.TheVariants as Unsigned
 use Rattle.bits.specs.declared.Signed.{Signed}
-use Rattle.bits.specs.declared.Signed.TheVariants as Signed
 use Rattle.bits.specs.Field.{field, twos, within, withinℤ, unsigned_if, signed_if, unsigned_of, signed_of}
 
 some_is_not_none : {A : Type 0} {a : A} → some a ≡ none → ⊥

@@ -79,6 +79,7 @@ one_shifted w h = shl_exact {a = 1} 1 w 64 (omega arith) (omega arith) ∙ one-m
 
 -- and twice the one before it.
 pub half : (w : ℕ) → 1 ≤ w → 2 ^ w ≡ 2 * 2 ^ (w - 1)
+half zero h = elim h [ ]
 half (suc n) h = rw (sub_one_suc n) (omega arith)
   where
     sub_one_suc : (n : ℕ) → suc n - 1 ≡ n

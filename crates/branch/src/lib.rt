@@ -13,6 +13,7 @@ pub enum Branch {
 
 impl Branch {
     // The branch of a number; any above 2 is read as elastic.
+    #[tactic(auto, unfolding(crate::specs::Branches::branch_of))]
     pub fn of(number: u64) -> Branch
         ensures { result ≡ branch_of number }
     {

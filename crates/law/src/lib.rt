@@ -13,6 +13,7 @@ pub enum Law {
 }
 
 impl Law {
+    #[tactic(auto, unfolding(crate::specs::Laws::law_of))]
     pub fn of(number: u64) -> Law
         requires { number < 4 }
         ensures { result ≡ law_of number }
