@@ -6,6 +6,7 @@ use Rattle.curve.proofs.Walk.{begun, onward, stop}
 use Rattle.curve.proofs.Side.walk.Given.{Live-loop-i}
 use Rattle.curve.proofs.Side.walk.Invariants.{invariant-loop-i}
 use Rattle.curve.proofs.Side.walk.Goals as goal
+use Rattle.curve.proofs.Side.walk.Goals.{After-plus-rise}
 
 pub loop-i-init : goal.loop-i-init
 loop-i-init c =
@@ -22,12 +23,15 @@ returns-then-below-clause-value c =
     let before : c.loop-i.past.0 < c.times-span.result.0 = search rules in
     (stop c.loop-i.invariant (inr (omega (arith, c.loop-i-test.true), omega (arith, span, before))) c.reading.result (rw c.plus.ensures at c.reading.ensures) c.args.abscissa refl).0
 
+-- What is carried on is the rise so far and the segment's own.
+carried-on : (c : After-plus-rise) → c.plus-rise.result.0 ≡ c.loop-i.rise.0 + tangent_of c.args.self c.loop-i.i * length_at c.args.self c.loop-i.i
+carried-on c = omega (arith, number c.plus-rise.ensures, number c.times-own_rise.ensures)
+
 pub loop-i-preserved : goal.loop-i-preserved
 loop-i-preserved c =
     let span : c.times-span.result.0 ≡ c.args.modulus.0 * length_at c.args.self c.loop-i.i = omega (arith, number c.times-span.ensures) in
-    let own : c.times-own_rise.result.0 ≡ tangent_of c.args.self c.loop-i.i * length_at c.args.self c.loop-i.i = omega (arith, number c.times-own_rise.ensures) in
     let ends : c.times-span.result.0 ≤ c.loop-i.past.0 = search rules in
-    onward c.loop-i.invariant (omega (arith, c.loop-i-test.true)) (omega (arith, span, ends)) (omega (arith, number c.plus-rise.ensures, own)) (omega (arith, number c.minus-past-in-loop-i.ensures, span))
+    onward c.loop-i.invariant (omega (arith, c.loop-i-test.true)) (omega (arith, span, ends)) (carried-on c) (omega (arith, number c.minus-past-in-loop-i.ensures, span))
 
 pub returns-clause-value : goal.returns-clause-value
 returns-clause-value c =
