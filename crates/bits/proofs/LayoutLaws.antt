@@ -10,10 +10,12 @@ use lib.Pow.{pow-add, mod-pow-add, mod-mod-pow}
 use lib.Pow as pow
 use lib.Seq.{get_or_at, take-suc, take_all}
 use lib.IntN.{ℤ}
+use mir.Syntax.{w64}
+use mir.Val.{to_z, of_z}
 use Rattle.bits.specs.Field.{field, twos, bits_of, Held}
 use Rattle.bits.specs.Layout.{Part, width_at, offset, field_at, whole_at, bits_at, filled, widths, packed, bytes_of}
 use Rattle.bits.proofs.FieldLaws.{field_below, field_split, field_byte, field_inside}
-use Rattle.bits.proofs.SignLaws.{twos_of_bits, bits_of_twos}
+use Rattle.bits.proofs.SignLaws.{twos_of_bits, bits_of_twos, passed}
 use Rattle.bits.proofs.PutLaws.{length_bytes_of}
 
 -- Bytes are numbers below 256.
@@ -135,3 +137,7 @@ whole_of_field s at w h = bits_of_twos w (field s at w) h (field_below s at w)
 
 pub bits_of_whole : (layout s : List ℕ) (k : ℕ) → 1 ≤ width_at layout k → bits_at layout k (whole_at layout s k) ≡ field_at layout s k
 bits_of_whole layout s k h = (whole_of_field s (offset layout k) (width_at layout k) h).0
+
+-- A word of 64 bits holds that number.
+pub word_of_field : {z : ℤ} (s : List ℕ) (at w : ℕ) → (1 ≤ w) × (w ≤ 64) → z ≡ twos w (field s at w) → to_z w64 (of_z w64 z) ≡ twos w (field s at w)
+word_of_field {z} s at w (some, most) e = passed w z (rw e (whole_of_field s at w some).1) most ∙ e

@@ -4,19 +4,14 @@ use mathlib.Core.Option.{some, none}
 use Rattle.bits.proofs.RangeLaws.{Answers}
 use Rattle.sheet.specs.declared.Counts.{Counts}
 use Rattle.sheet.specs.declared.CountsRead.{CountsRead}
-use Rattle.sheet.specs.declared.CountsRead.TheVariants as CountsRead
 use Rattle.sheet.specs.declared.Constants.{Constants}
 use Rattle.sheet.specs.declared.ConstantsRead.{ConstantsRead}
-use Rattle.sheet.specs.declared.ConstantsRead.TheVariants as ConstantsRead
 use Rattle.sheet.specs.declared.Yields.{Yields}
 use Rattle.sheet.specs.declared.YieldsRead.{YieldsRead}
-use Rattle.sheet.specs.declared.YieldsRead.TheVariants as YieldsRead
 use Rattle.sheet.specs.declared.Header.{Header}
 use Rattle.sheet.specs.declared.HeaderRead.{HeaderRead}
-use Rattle.sheet.specs.declared.HeaderRead.TheVariants as HeaderRead
 use Rattle.expansion.specs.declared.Point.{Point}
 use Rattle.sheet.specs.declared.PointRead.{PointRead}
-use Rattle.sheet.specs.declared.PointRead.TheVariants as PointRead
 
 abbrev pub counts : Answers Counts CountsRead
 counts = record { value = CountsRead.Right; out = CountsRead.OutOfRange; held = elim [ CountsRead.Right x ↦ some x | CountsRead.OutOfRange ↦ none ]; held_value = λ x. refl; held_out = refl }
