@@ -1,5 +1,5 @@
 -- SPEC 12.5: the fewest digits that hold a number are its numeral, and a number of few digits has a short one.
-use Prim.Native.Nat.{ℕ, zero, suc, ◌+◌, ◌-◌, ◌*◌, ◌/◌, ◌%◌, ◌^◌, ◌≤◌, ◌<◌}
+use Prim.Native.Nat.{ℕ, zero, suc, ◌-◌, ◌*◌, ◌/◌, ◌%◌, ◌^◌, ◌≤◌, ◌<◌}
 use mathlib.Core.Path.{◌≡◌, refl, sym}
 use mathlib.Core.Bool.{true, false, false≢true}
 use mathlib.Core.List.{List, ◌++◌}
@@ -8,7 +8,7 @@ use borrow.Author.Tests.{lt-ltb, le-ltb}
 use lib.IntN.{ℤ, pos, negsuc, nat_abs}
 use Rattle.units.specs.Signs.{is_neg}
 use Rattle.io.specs.Digits.{hex_digit_ascii, last_digits, IsDigitCount}
-use Rattle.log.specs.Texts.{ascii, digit, digits_within, numeral, signed_numeral}
+use Rattle.rod_log.specs.Texts.{ascii, digit, digits_within, numeral, signed_numeral}
 
 power_above : (k : ℕ) → k < 10 ^ k
 power_above zero = omega arith

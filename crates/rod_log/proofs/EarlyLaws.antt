@@ -17,7 +17,7 @@ use Rattle.pair.specs.Pairs.{list_refusals}
 use Rattle.state.specs.States.{state_length, state_refusals, state_of}
 use Rattle.rod.specs.Against.{against_refusals}
 use Rattle.judge.specs.Standing.{Ready, ready_of, standing_refusals}
-use Rattle.log.specs.Logs.{Told, sheet_end, sheet_part, state_part, pairs_part, log_refusals, told_by, told_of, log_told}
+use Rattle.rod_log.specs.Logs.{Told, sheet_end, sheet_part, state_part, pairs_part, log_refusals, told_by, told_of, log_told}
 
 -- A refusal before the first pair: no row, and place 0.
 abbrev pub turned_away : ℕ → Told

@@ -28,9 +28,9 @@ use Rattle.judge.specs.Standing.{standing_refusals}
 use Rattle.tie_rod.specs.Calls as calls
 use Rattle.state.specs.States as states
 use Rattle.rod.specs.InRange as rods
-use Rattle.log.specs.Lines.{line_of, lines_from, lines_of, last_line}
-use Rattle.log.specs.Texts.{ascii, digits_within, numeral, signed_numeral}
-use Rattle.log.specs.Logs.{log_refusals, told_by, told_of, text_of}
+use Rattle.rod_log.specs.Lines.{line_of, lines_from, lines_of, last_line}
+use Rattle.rod_log.specs.Texts.{ascii, digits_within, numeral, signed_numeral}
+use Rattle.rod_log.specs.Logs.{log_refusals, told_by, told_of, text_of}
 
 -- The sheet, the state and the two pairs.
 abbrev pub sheet : List ℕ

@@ -8,7 +8,7 @@ use Rattle.refusals.proofs.FirstLaws.{InUse, Numbered, answer_number_lem}
 use Rattle.judge.specs.Standing.{Ready, ready_of}
 use Rattle.tie_rod.specs.Calls.{pairs_in}
 use Rattle.tie_rod.proofs.Numbers.{opening_numbers, walk_in_use}
-use Rattle.log.specs.Logs.{sheet_part, state_part, pairs_part, log_refusals, told_by, told_of, log_told}
+use Rattle.rod_log.specs.Logs.{sheet_part, state_part, pairs_part, log_refusals, told_by, told_of, log_told}
 
 told_in_use : (sheet state pairs : List ℕ) → InUse (told_of sheet state pairs).number
 unfolding told_of told_by log_refusals

@@ -1,6 +1,6 @@
 // Texts and numbers (SPEC 12.5), appended one behind another to a lent buffer.
 ghost use Rattle.std.specs.Prelude.{◌+◌, ◌≤◌, ◌++◌, length};
-ghost use Rattle.log.specs.Texts.{Appended, numeral, signed_numeral};
+ghost use Rattle.rod_log.specs.Texts.{Appended, numeral, signed_numeral};
 
 use units::Grain;
 
@@ -9,7 +9,7 @@ pub(crate) fn append(out: &mut [u8], at: usize, text: &[u8]) -> usize
     ensures { Appended text.now out.old at out.new result }
 {
     let end = at + text.len();
-    bytes::copy(text, &mut out[at..end]);
+    out[at..end].copy_from_slice(text);
     end
 }
 
