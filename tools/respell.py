@@ -166,7 +166,7 @@ def line_of(line, mark, names):
 
 
 def main(argv):
-    names = final()
+    turning = names = final()
     if argv == ["--list"]:
         for k, n in names.items():
             print(k, n)
@@ -175,10 +175,13 @@ def main(argv):
     files = [p for p in files if "/out/" not in p]
     for p in files:
         mark = "--" if p.endswith(".antt") else "//"
+        # a lemma's suffix is no matter of src/, where a function may have that name
+        names = turning if p.endswith(".antt") else {k: n for k, n in turning.items() if k not in THERE}
         old = open(p, encoding="utf-8").read()
         new = "\n".join(line_of(l, mark, names) for l in old.split("\n"))
         if new != old:
             open(p, "w", encoding="utf-8").write(new)
+    names = turning
     for p in sorted(glob.glob("crates/*/must-fail/*.edit")):
         old = open(p, encoding="utf-8").read()
         new = "\n".join(turned(l, names) if l[:5] in ("old: ", "new: ") else l for l in old.split("\n"))

@@ -32,7 +32,7 @@ fn past_yield(yield_stress: Magnitude, abscissa: Grain) -> bool
     yield_stress.at_most(abscissa.magnitude())
 }
 
-fn no_second_lem(rod: Rod) -> bool
+fn no_second(rod: Rod) -> bool
     ensures { result ≡ no_second rod }
 {
     let second = rod.second;
@@ -53,7 +53,7 @@ fn isotropic(sheet: Sheet, rod: Rod, limit: Magnitude) -> bool
     if !within_limit(limit, false, stress.magnitude()) {
         return false;
     }
-    no_second_lem(rod)
+    no_second(rod)
 }
 
 fn kinematic(sheet: Sheet, rod: Rod) -> bool
@@ -67,7 +67,7 @@ fn kinematic(sheet: Sheet, rod: Rod) -> bool
     if !stress.minus(centre).magnitude().at_most(radius) {
         return false;
     }
-    no_second_lem(rod)
+    no_second(rod)
 }
 
 fn asymmetric(sheet: Sheet, rod: Rod, limits: Limits) -> bool

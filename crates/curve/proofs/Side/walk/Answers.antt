@@ -24,14 +24,14 @@ returns-then-below-clause-value c =
     (stop c.loop-i.invariant (inr (omega (arith, c.loop-i-test.true), omega (arith, span, before))) c.reading.result (rw c.plus.ensures at c.reading.ensures) c.args.abscissa refl).0
 
 -- What is carried on is the rise so far and the segment's own.
-carried-on : (c : After-plus-rise) → c.plus-rise.result.0 ≡ c.loop-i.rise.0 + tangent_of c.args.self c.loop-i.i * length_at c.args.self c.loop-i.i
-carried-on c = omega (arith, number c.plus-rise.ensures, number c.times-own_rise.ensures)
+carried_on : (c : After-plus-rise) → c.plus-rise.result.0 ≡ c.loop-i.rise.0 + tangent_of c.args.self c.loop-i.i * length_at c.args.self c.loop-i.i
+carried_on c = omega (arith, number c.plus-rise.ensures, number c.times-own_rise.ensures)
 
 pub loop-i-preserved : goal.loop-i-preserved
 loop-i-preserved c =
     let span : c.times-span.result.0 ≡ c.args.modulus.0 * length_at c.args.self c.loop-i.i = omega (arith, number c.times-span.ensures) in
     let ends : c.times-span.result.0 ≤ c.loop-i.past.0 = search rules in
-    onward c.loop-i.invariant (omega (arith, c.loop-i-test.true)) (omega (arith, span, ends)) (carried-on c) (omega (arith, number c.minus-past-in-loop-i.ensures, span))
+    onward c.loop-i.invariant (omega (arith, c.loop-i-test.true)) (omega (arith, span, ends)) (carried_on c) (omega (arith, number c.minus-past-in-loop-i.ensures, span))
 
 pub returns-clause-value : goal.returns-clause-value
 returns-clause-value c =
@@ -41,7 +41,7 @@ returns-clause-value c =
 
 -- SPEC 4.11: the loop begins with the invariant and keeps it from turn to turn. By it each i that the loop reaches is a segment of the side,
 -- what is carried there is T at its start less the yield, and what is left of the abscissa lies beyond that start.
-pub walk-carries : goal.loop-i-init × goal.loop-i-preserved × ((l : Live-loop-i) → invariant-loop-i l → (some : 0 < l.modulus.0)
+pub walk_carries : goal.loop-i-init × goal.loop-i-preserved × ((l : Live-loop-i) → invariant-loop-i l → (some : 0 < l.modulus.0)
     → let E = l.modulus.0 in let curve = curve_of l.self in
     (l.i < l.self.count) × Carries E some curve l.i l.rise.0 × ((span_at E curve l.i).start + l.past.0 ≡ l.fn.abscissa.0))
-walk-carries = (loop-i-init, loop-i-preserved, λ l inv some. (inv.index, inv.carries some, inv.lies))
+walk_carries = (loop-i-init, loop-i-preserved, λ l inv some. (inv.index, inv.carries some, inv.lies))

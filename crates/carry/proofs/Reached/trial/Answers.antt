@@ -1,0 +1,32 @@
+use Rattle.std.proofs.Common.{◌≡◌, sym, ap, ◌∙◌}
+use Rattle.refusals.specs.Table.{passes, first_of}
+use Rattle.pair.proofs.PairLaws.{pair_facts}
+use Rattle.rod.specs.Steps.{step_refusals, advance_of}
+use Rattle.carry.specs.declared.Reached.{Reached}
+use Rattle.carry.specs.Reaching.{with_reached}
+use Rattle.carry.proofs.ReachedLaws.{limits_stand, thermals_stand, reached_next}
+use Rattle.carry.proofs.Reached.trial.Goals as goal
+
+pub thermal-after-requires : goal.thermal-after-requires
+thermal-after-requires c = (c.requires.0.accepted.sound, (pair_facts c.args.pair c.requires.1).1)
+
+pub step-requires : goal.step-requires
+step-requires c =
+    let stands = c.requires.0 in
+    record { accepted = (stands.accepted, c.requires.1); limits = limits_stand stands; thermals = thermals_stand c.args.pair stands c.thermal-after.ensures.value }
+
+pub returns-in-Advanced : goal.returns-in-Advanced
+returns-in-Advanced c =
+    let h = c.args.sheet in
+    let r = c.args.self.rod in
+    let p = c.args.pair in
+    let a = c.in-Advanced.advance in
+    let answer : first_of (step_refusals h r p) (advance_of h r p) ≡ passes a = sym c.in-Advanced.ensures in
+    ap (λ (to : Reached). passes (record { to = to; row = a.row })) (reached_next p c.requires.0 answer c.after-reached.ensures c.thermal-after.ensures.value)
+    ∙ ap (with_reached h) (sym answer)
+
+pub returns-in-StrainLeaves : goal.returns-in-StrainLeaves
+returns-in-StrainLeaves c = ap (with_reached c.args.sheet) c.in-StrainLeaves.ensures
+
+pub returns-in-OutOfRange : goal.returns-in-OutOfRange
+returns-in-OutOfRange c = ap (with_reached c.args.sheet) c.in-OutOfRange.ensures

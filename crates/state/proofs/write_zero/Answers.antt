@@ -1,0 +1,6 @@
+use Rattle.bits.specs.Layout.{bytes_of}
+use Rattle.state.proofs.write_zero.Goals as goal
+
+pub returns : goal.returns
+unfolding bytes_of
+returns c = c.write.ensures
