@@ -1,19 +1,19 @@
 #!/bin/sh
-# rt with these words, told as it goes: its own line for each crate that it
-# proves. All that the prover said follows only where rt fails.
+# prove.sh COMMAND CRATE: rt COMMAND in a crate's folder, told as it goes: a line
+# for each crate that is checked. All that the prover said follows only where rt
+# fails. A program that `rt run` has built and starts reads nothing here.
 set -u
 cd "$(dirname "$0")/.."
 
-out=target/checks
+out=$(pwd)/target/checks
 mkdir -p "$out"
-echo "rt $*: a line for each crate as it is proved, some minutes in a clean clone"
+echo "rt $1 in crates/$2: a line for each crate as it is checked, some minutes in a clean clone"
 {
-    rt "$@" 2>&1
+    (cd "crates/$2" && rt "$1" </dev/null 2>&1)
     echo $? >"$out/rt.status"
 } | tee "$out/rt.said" | while IFS= read -r line; do
     case $line in
-    *"(unchanged since it was last proved)") ;;
-    "rt: "*) printf '%s\n' "$line" ;;
+    "crate "*": modules "*) printf 'rt: %s\n' "${line%%:*}" ;;
     esac
 done
 

@@ -22,10 +22,13 @@ quiet() {
 # What the papers count and list is what the tree has.
 quiet sh checks/papers
 
-sh checks/prove.sh staticlib tie_rod_c
-sh checks/prove.sh staticlib section_c
-sh checks/prove.sh staticlib grade_c
-archives="target/staticlib/libtie_rod_c.a target/staticlib/libsection_c.a target/staticlib/libgrade_c.a"
+sh checks/prove.sh lib tie_rod_c
+sh checks/prove.sh lib section_c
+sh checks/prove.sh lib grade_c
+runs=crates/tie_rod_c/out/libtie_rod_c.a
+sections=crates/section_c/out/libsection_c.a
+gradings=crates/grade_c/out/libgrade_c.a
+archives="$runs $sections $gradings"
 
 # What the archives export is what the header declares: its functions, but the
 # static ones, which are compiled where they are included.
@@ -48,11 +51,11 @@ fi
 
 compile="${CC:-cc} -O2 -Wall -Wextra -Werror -Iinclude"
 for name in firmware solver; do
-    quiet $compile -std=c99 -pedantic -o "$out/$name" "examples/$name.c" target/staticlib/libtie_rod_c.a
+    quiet $compile -std=c99 -pedantic -o "$out/$name" "examples/$name.c" "$runs"
     "$out/$name" >"$out/$name.stdout"
     quiet diff "examples/$name.stdout" "$out/$name.stdout"
 done
-quiet $compile -std=c99 -pedantic -o "$out/grade" examples/grade.c target/staticlib/libgrade_c.a target/staticlib/libtie_rod_c.a
+quiet $compile -std=c99 -pedantic -o "$out/grade" examples/grade.c "$gradings" "$runs"
 "$out/grade" >"$out/grade.stdout"
 quiet diff examples/grade.stdout "$out/grade.stdout"
 quiet $compile -std=c11 -pedantic -o "$out/plate" examples/plate.c $archives
@@ -63,8 +66,8 @@ quiet "$out/stack"
 cat "$out/log"
 
 # The log program on every sample, and, within 32 MiB, on input that doesn't end.
-sh checks/prove.sh check walk_log
-program=target/bin/walk_log
+sh checks/prove.sh run walk_log
+program=crates/walk_log/out/walk_log
 logs=0
 for log in examples/*.log examples/logs/*.log; do
     "$program" <"$log" >"$out/text"

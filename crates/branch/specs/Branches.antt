@@ -1,5 +1,5 @@
 -- The branches of a law (SPEC 7.7), their numbers in a row, and which of them are a flow, cited by row, response, accuracy,
--- board and log; definitions only, nothing is assumed.
+-- board and rod_log; definitions only, nothing is assumed.
 use Rattle.std.specs.Prelude.{ℕ, Bool, true, false, cond, eqb}
 use Rattle.branch.specs.declared.Branch.{Branch}
 use Rattle.branch.specs.declared.Branch.TheVariants.{Elastic, Tension, Compression}

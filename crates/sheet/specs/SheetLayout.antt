@@ -1,4 +1,4 @@
--- Where everything stands in a sheet's bytes (SPEC 3.7, 3.8), cited by Sheets, Bytes and log; definitions only, nothing is assumed.
+-- Where everything stands in a sheet's bytes (SPEC 3.7, 3.8), cited by Sheets, Bytes and rod_log; definitions only, nothing is assumed.
 use Rattle.std.specs.Prelude.{ℕ, ◌+◌, ◌*◌, List, [], ◌∷◌}
 
 -- SPEC 3.7: the widths of the header's fields: law, tension segments, compression segments, E, expansion, reference temperature, tension

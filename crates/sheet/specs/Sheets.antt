@@ -1,5 +1,5 @@
 -- The values that a sheet's bytes hold (SPEC 3.7 to 3.9) and 1, 2, 3 and 13 (SPEC 8.2), for any bytes of any length, cited by judge,
--- tie_rod, log, board and the demands; definitions only, nothing is assumed.
+-- tie_rod, rod_log, board and the demands; definitions only, nothing is assumed.
 use Rattle.std.specs.Prelude.{ℕ, zero, suc, ◌+◌, ◌-◌, ◌*◌, Bool, true, not, ◌&&◌, ◌||◌, cond, List, [], ◌∷◌, ◌++◌, length, replicate, ℤ, eqb, leb, ltb}
 use Rattle.refusals.specs.Table.{Refusal, refusal, Answer, numbered}
 use Rattle.ranges.specs.Ranges.{temperature_right, most_modulus, most_expansion, most_yield, most_length, grains}

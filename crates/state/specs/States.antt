@@ -1,4 +1,4 @@
--- A state in bytes (SPEC 3.11, 3.16, 3.17) with 4 and 5, cited by judge, tie_rod, log and the demands; definitions only, nothing is
+-- A state in bytes (SPEC 3.11, 3.16, 3.17) with 4 and 5, cited by judge, tie_rod, rod_log and the demands; definitions only, nothing is
 -- assumed.
 use Rattle.std.specs.Prelude.{ℕ, ◌<◌, ◌^◌, not, ◌&&◌, List, [], ◌∷◌, eqb, length, replicate}
 use Rattle.refusals.specs.Table.{Refusal, refusal, Answer, passes, refused}

@@ -1,0 +1,44 @@
+// Standard input and output (SPEC 12.8, 12.10). What the system reads and prints is in no contract, so these functions have no equation.
+ghost use Rattle.std.specs.Prelude.{◌≡◌, length};
+ghost use Rattle.std.specs.Io.{ReadsAtMost};
+
+use crate::walk;
+use std::io::{Read, Result};
+
+// Room for the text of any log: one write prints it.
+fn text_buffer() -> [u8; 262144]
+    ensures { 262144 ≡ length result }
+{
+    [0; 262144]
+}
+
+// Prints the text of a log.
+pub fn print_text(rt: &impl Print, log: &[u8]) -> Result<()> {
+    let mut out = text_buffer();
+    let count = walk::log_text(log, &mut out);
+    rt.write_all(&out[..count])
+}
+
+// Reads until the buffer is full or the input ends: answers how many bytes it put at the start.
+pub fn read_full<R: Read>(input: &mut R, buffer: &mut [u8]) -> Result<usize>
+    ensures { ReadsAtMost result buffer.new }
+{
+    let mut done = 0;
+    while done < buffer.len() {
+        let got = input.read(&mut buffer[done..])?;
+        if got == 0 {
+            break;
+        }
+        done += got;
+    }
+    Ok(done)
+}
+
+// Prints the text of the log on standard input, of which the first 65,536 bytes are read: the text of longer input is theirs (`text_of_cut`),
+// since the pairs are above 4,096 anyway.
+pub fn walk_input(rt: &(impl Print + Input)) -> Result<()> {
+    let mut input = io::large_buffer();
+    let mut reader = rt.reader();
+    let count = read_full(&mut reader, &mut input)?;
+    print_text(rt, &input[..count])
+}
