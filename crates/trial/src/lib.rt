@@ -34,7 +34,7 @@ fn store(bytes: &[u8], trial: &mut [u8], at: usize)
     ensures { trial.new ≡ put trial.old at bytes.now }
 {
     let end = at + bytes.len();
-    bytes::copy(bytes, &mut trial[at..end]);
+    trial[at..end].copy_from_slice(bytes);
 }
 
 // An accepted trial has number 0, the state that it started from and the one that it came to.
@@ -110,7 +110,7 @@ pub fn keep(trial: &[u8; 75], state: &[u8], next: &mut [u8]) -> u64
     let tried = &trial[..];
     let number = keep_number(tried, state, next.len());
     if number == 0 {
-        bytes::copy(&tried[NEXT_AT..TRIAL_LENGTH], next);
+        next.copy_from_slice(&tried[NEXT_AT..TRIAL_LENGTH]);
     }
     number
 }
