@@ -1,7 +1,7 @@
 -- SPEC 10.6, 10.7: each step of the bar is the only solution of the law's conditions, from the bar's numbers, for every bar of a history.
 use mathlib.Core.Path.{◌≡◌, refl}
 use mathlib.Core.List.{List, [], ◌∷◌}
-use lib.IntN.{ℤ, pos, ◌+ℤ◌, ◌-ℤ◌, ◌*ℤ◌}
+use lib.IntN.{pos, ◌+ℤ◌, ◌-ℤ◌, ◌*ℤ◌}
 use Rattle.fractions.specs.Fraction.{Frac, ◌≈F◌, whole, ◌-F◌}
 use Rattle.fractions.proofs.Comparison.{≤F-refl, ≈F-refl, ≈F-trans}
 use Rattle.fractions.proofs.Arithmetic.{whole_sub, rest_of_sum}

@@ -1,6 +1,6 @@
 -- That every step of the bar is the only one that meets its law's conditions (SPEC 10.6, 10.7), cited by Within at each stop; the
 -- conditions are those to which the stored rod is held (response/specs/Candidates). Definitions only; nothing is assumed.
-use Rattle.std.specs.Prelude.{◌≡◌, List, [], ◌∷◌, ℤ, pos, ◌+ℤ◌}
+use Rattle.std.specs.Prelude.{◌≡◌, List, [], ◌∷◌, pos, ◌+ℤ◌}
 use Rattle.fractions.specs.Fraction.{Frac, ◌≈F◌, whole, ◌-F◌}
 use Rattle.sheet.specs.declared.Sheet.{Sheet}
 use Rattle.sheet.specs.Sound.{SheetSound}

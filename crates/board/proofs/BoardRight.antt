@@ -1,9 +1,7 @@
 -- SPEC 13.2: the board's rows, computed and proved together; and for the last of them the fraction that is rounded.
-use mathlib.Core.Path.{◌≡◌, refl}
-use mathlib.Core.Bool.{true}
-use mathlib.Core.List.{[], ◌∷◌}
+use mathlib.Core.Path.{refl}
 use lib.Dec.{lit<}
-use lib.IntN.{pos, nat_abs}
+use lib.IntN.{pos}
 use Rattle.refusals.specs.Table.{first_of}
 use Rattle.fractions.specs.Fraction.{◌≈F◌, whole, ◌+F◌, neg_f, ◌-F◌, abs_f, signed_f, le_f}
 use Rattle.bits.specs.Field.{field, twos, bits_of}
@@ -25,7 +23,7 @@ use Rattle.response.specs.Response.{isotropic_moved, kinematic_moved, asymmetric
 use Rattle.rod.specs.Unused.{unused_of}
 use Rattle.rod.specs.Steps.{trial_of, advance_of, strain_leaves, leaves_range, step_refusals}
 use Rattle.carry.specs.Walk.{pair_table, pair_answer, walk}
-use Rattle.board.specs.Board.{Loop, board, soft_steel, soft_pull, LoopRight, AllRight}
+use Rattle.board.specs.Board.{board, soft_steel, soft_pull, AllRight}
 
 -- All nine rows.
 pub board_right : AllRight board
