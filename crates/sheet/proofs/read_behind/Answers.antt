@@ -113,7 +113,7 @@ pub returns-then-not-points_rise : goal.returns-then-not-points_rise
 unfolding first_of sheet_field_refusals
 returns-then-not-points_rise c =
     let accepted = (goal.at.returns-then-not-points_rise c).After-accepted-read in
-    let falls = sym (tangents_are accepted) ∙ c.if-not-tangents_right.false in
+    let falls : both_sides c.args.s.now (tangents_right c.args.s.now) ≡ true = cc (tangents_are accepted) in
     let rises = sym (rise_is accepted _ c.rise-points_rise.ensures) ∙ c.if-not-points_rise.true in
     rw (c.refused-then-not-points_rise.ensures, c.requires.0, fields_right accepted, falls) (simp rises)
 

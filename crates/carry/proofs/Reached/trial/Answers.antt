@@ -1,14 +1,21 @@
-use Rattle.std.proofs.Common.{◌≡◌, sym, ap, ◌∙◌}
+use Rattle.std.proofs.Common.{◌≡◌, sym, ap, ◌∙◌, true}
 use Rattle.refusals.specs.Table.{passes, first_of}
+use Rattle.ranges.specs.Ranges.{temperature_right}
 use Rattle.pair.proofs.PairLaws.{pair_facts}
+use Rattle.rod.proofs.RangeFacts.{ranged}
 use Rattle.rod.specs.Steps.{step_refusals, advance_of}
 use Rattle.carry.specs.declared.Reached.{Reached}
 use Rattle.carry.specs.Reaching.{with_reached}
 use Rattle.carry.proofs.ReachedLaws.{limits_stand, thermals_stand, reached_next}
 use Rattle.carry.proofs.Reached.trial.Goals as goal
 
+-- Both temperatures lie in their range.
 pub thermal-after-requires : goal.thermal-after-requires
-thermal-after-requires c = (c.requires.0.accepted.sound, (pair_facts c.args.pair c.requires.1).1)
+thermal-after-requires c =
+    let accepted = c.requires.0.accepted in
+    let old : temperature_right c.args.self.rod.temperature.0 ≡ true = (ranged c.args.self.rod accepted.in_range).temperature in
+    let new : temperature_right c.args.pair.temperature.0 ≡ true = (pair_facts c.args.pair c.requires.1).1 in
+    (accepted.sound, search (old, new))
 
 pub step-requires : goal.step-requires
 step-requires c =
