@@ -14,7 +14,6 @@ use Rattle.sheet.specs.declared.Sheet.{Sheet}
 use Rattle.sheet.specs.Sheets.{sheet_of}
 use Rattle.sheet.specs.Sound.{SheetSound}
 use Rattle.section.specs.declared.Change.{Change}
-use Rattle.section.specs.declared.Movement.{Movement}
 use Rattle.section.specs.declared.Tally.{Tally}
 use Rattle.section.specs.declared.Opening.{Opening}
 use Rattle.section.specs.Sections.{call_right}

@@ -1,5 +1,5 @@
--- The types of a section as the walks over lent members name them: for each the row that the logic has of it, the machine value of one, and
--- its type in MIR. No line here or in a walk names a field or a size.
+-- The types of a section as the logic has them: for each its row, the machine value of one, and its type in MIR. No line here names a field
+-- or a size, but for `nobody`.
 use Prim.Native.Nat.{ℕ}
 use mathlib.Core.List.{[]}
 use lib.IntN.{pos}
@@ -56,6 +56,6 @@ word = ty_int w64
 abbrev pub size : ℕ
 size = (mem Members).size
 
--- What a list of members has behind its end, where no walk looks.
+-- What a list of members has behind its end, where nothing looks.
 abbrev pub nobody : Member
 nobody = record { area = 0; offset = pos 0; state = [] }

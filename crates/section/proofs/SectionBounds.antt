@@ -1,7 +1,7 @@
 -- How great a section's answer can be: one number of 64 bits holds number and place (SPEC 8.7, 9.10), and force and moment stay far below
 -- 2 ^ 63 (SPEC 15.5).
 use Prim.Native.Nat.{ℕ, ◌*◌, ◌≤◌}
-use mathlib.Core.Path.{◌≡◌, refl, ap}
+use mathlib.Core.Path.{◌≡◌, refl}
 use mathlib.Core.Bool.{true, not, ◌&&◌}
 use mathlib.Core.List.{List, [], ◌∷◌, map}
 use borrow.Author.Tests.{not-false}

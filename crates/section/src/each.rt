@@ -13,6 +13,7 @@ use rod::Rod;
 use units::Grain;
 
 // Area and offset are in their ranges.
+#[tactic(auto, unfolding(crate::specs::Sections::member_right))]
 fn right(member: Member) -> bool
     ensures { result ≡ member_right member }
 {
@@ -99,6 +100,7 @@ fn added(tally: Tally, member: Member, stress: Grain) -> Tally
 }
 
 // A number of the section's own has no place, and stands.
+#[tactic(auto, unfolding(crate::specs::Tallies::sections_own))]
 fn sections_own(tally: Tally) -> bool
     ensures { result ≡ sections_own tally }
 {
@@ -108,6 +110,7 @@ fn sections_own(tally: Tally) -> bool
 }
 
 // The tally with one rod more. 14 for a later member goes before the number of a rod seen already.
+#[tactic(auto, using(crate::proofs::MemberLaws::next_stress_most), unfolding(crate::specs::Tallies::tally_of))]
 pub(crate) fn tally(tally: Tally, member: Member, movement: Movement) -> Tally
     requires { GoesOn 1 movement tally }
     ensures { result ≡ tally_of movement tally member }
@@ -137,6 +140,7 @@ pub(crate) fn tally(tally: Tally, member: Member, movement: Movement) -> Tally
 }
 
 // A member with the state of a rod.
+#[tactic(auto, using(bits::proofs::PutLaws::put_whole, state::proofs::RoundTrip::length_state))]
 fn with_state(member: Member, rod: Rod) -> Member
     requires { StateFits rod }
     ensures { result ≡ with_state member rod }
@@ -151,6 +155,7 @@ fn with_state(member: Member, rod: Rod) -> Member
 }
 
 // A member after a call: its trial is kept and stored. One that is refused stays; `settle` doesn't come here then.
+#[tactic(auto, unfolding(crate::specs::Tallies::next_of))]
 pub(crate) fn next(member: Member, movement: Movement) -> Member
     requires { MovementRight movement }
     ensures { result ≡ next_of movement member }

@@ -7,6 +7,7 @@ use crate::{Change, Member, Movement, Opening, SectionReply, Tally, each, togeth
 use units::{Curvature, Nano, Tenths};
 
 // How many rods there are, and the change, are in their ranges.
+#[tactic(auto, unfolding(crate::specs::Sections::call_right))]
 fn call_right(members: usize, change: Change) -> bool
     ensures { result ≡ call_right members change }
 {

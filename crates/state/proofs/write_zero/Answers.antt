@@ -3,4 +3,4 @@ use Rattle.state.proofs.write_zero.Goals as goal
 
 pub returns : goal.returns
 unfolding bytes_of
-returns c = c.write.ensures
+returns c = rw c.write.ensures

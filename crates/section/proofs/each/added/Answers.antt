@@ -9,7 +9,7 @@ use Rattle.section.proofs.MemberLaws.{member_ranges, force_most, force_magnitude
 use Rattle.section.proofs.each.added.Goals as goal
 use Rattle.section.proofs.each.added.Goals.{Start, After-cut}
 
--- area, and the parts of force and moment, far below 2 ^ 63
+-- Area, and the parts of force and moment, far below 2 ^ 63
 area_below : (c : Start) → c.args.member.area < 2 ^ 63
 area_below c = omega (arith, (member_ranges c.args.member c.requires.1).area_most)
 
@@ -26,7 +26,7 @@ moment_below c =
 pub overflow_cast-area : goal.overflow_cast-area
 overflow_cast-area c = fits_of_magnitude _ (area_below (goal.at.overflow_cast-area c).Start)
 
--- what the machine multiplies is the force
+-- What the machine multiplies is the force
 force_is : (c : After-cut) → let a = c.args in stored c.cut.result *ℤ to_z w64 a.member.area ≡ force_of a.member a.stress.0
 force_is c =
     ap₂ ◌*ℤ◌ (to_z-of_z {w = w64} {z = c.cut.result} (search rules) ∙ c.cut.ensures) (to_z_pos w64 (area_below (goal.at.overflow_mul-force c).Start))
@@ -37,7 +37,7 @@ overflow_mul-force c = subst (SFits w64) (sym (force_is c)) (fits_of_magnitude _
 force_kept : (c : After-cut) → let a = c.args in stored (stored c.cut.result *ℤ to_z w64 a.member.area) ≡ force_of a.member a.stress.0
 force_kept c = to_z-of_z (overflow_mul-force c) ∙ force_is c
 
--- and then the moment.
+-- And then the moment.
 moment_is : (c : After-cut) → let a = c.args in
     stored (stored c.cut.result *ℤ to_z w64 a.member.area) *ℤ stored a.member.offset ≡ moment_of a.member a.stress.0
 moment_is c = ap₂ ◌*ℤ◌ (force_kept c) (to_z-of_z {w = w64} {z = c.args.member.offset} (search rules))

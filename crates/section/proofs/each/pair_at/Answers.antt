@@ -1,4 +1,4 @@
-use Rattle.std.proofs.Common.{◌≡◌, ◌*◌, ◌≤◌, rules, arith, nat_abs, to_z, of_z, w64}
+use Rattle.std.proofs.Common.{◌*◌, ◌≤◌, rules, arith, nat_abs, to_z, of_z, w64}
 use mir.Facts.{to_z-of_z}
 use Rattle.ranges.specs.Ranges.{most_change}
 use Rattle.ranges.proofs.RangeMagnitudes.{around_magnitude}

@@ -11,16 +11,16 @@ use Rattle.section.proofs.MemberLaws.{state_stops, pair_stops, step_decides}
 use Rattle.section.proofs.each.tried.Goals as goal
 use Rattle.section.proofs.each.tried.Goals.{Start, Else-holder-ne0}
 
--- what the arguments make of a state, which the state's table is asked about
+-- What the arguments make of a state, which the state's table is asked about
 abbrev ready : Start → Ready
 ready c = record { sheet = c.args.movement.sheet; rod = state_of c.args.member.state }
 
--- the state passes
+-- The state passes
 state_passed : (c : Else-holder-ne0) → let h = c.args.movement.sheet in let s = c.args.member.state in
     first_of {A = Ready} (holder_refusals h s) (record { sheet = h; rod = state_of s }) ≡ passes (record { sheet = h; rod = c.judge_state-judged.result.reached.rod })
 state_passed c = number_passes c.judge_state-judged.result.number _ c.judge_state-judged.ensures.result_value c.if-holder-ne0.false
 
--- and is the rod that was judged
+-- And is the rod that was judged
 same_rod : (c : Else-holder-ne0) → state_of c.args.member.state ≡ c.judge_state-judged.result.reached.rod
 same_rod c = ap (λ (x : Ready). x.rod) (passes_given _ _ (state_passed c))
 
@@ -38,7 +38,7 @@ returns-then-not-in_range c =
     ap pair_in_range (sym c.pair_at-pair.ensures) ∙ sym c.in_range.ensures ∙ c.if-not-in_range.true in
     ap (with_reached a.movement.sheet) (sym (pair_stops a.movement.sheet a.movement.change a.member (ready at.Start) (state_passed at.Else-holder-ne0) out))
 
--- what trying the pair answers is the member's answer
+-- What trying the pair answers is the member's answer
 pub returns : goal.returns
 returns c =
     let a = c.args in

@@ -1,4 +1,4 @@
-use Rattle.std.proofs.Common.{◌≡◌, arith, true, false, sym, ap, subst, ◌∙◌}
+use Rattle.std.proofs.Common.{◌≡◌, arith, sym, ap, subst, ◌∙◌}
 use mir.Facts.{to_z-of_z}
 use Rattle.refusals.specs.Table.{passes, first_of}
 use Rattle.refusals.proofs.FirstLaws.{stops_first, goes_on, number_refused, number_passes}
@@ -13,17 +13,17 @@ use Rattle.section.specs.Sections.{change_of, call_right}
 use Rattle.section.specs.Tallies.{open_refusals}
 use Rattle.section.proofs.Openings.{opened_refused, opened_passes}
 use Rattle.section.proofs.entry.open.Goals as goal
-use Rattle.section.proofs.entry.open.Goals.{Start, Else-author-ne0, After-call_right}
+use Rattle.section.proofs.entry.open.Goals.{Start, Else-author-ne0}
 
 abbrev change : Start → Change
 change c = change_of c.args.mean c.args.curvature c.args.temperature
 
--- the sheet passes
+-- The sheet passes
 passed : (c : Else-author-ne0) → first_of (sheet_refusals c.args.sheet.now) (sheet_of c.args.sheet.now) ≡ passes c.read-read.result.sheet
 passed c =
     number_passes c.sheet_number-author.result c.read-read.result.sheet (read_numbered c.read-read.result c.read-read.ensures c.sheet_number-author.ensures) c.if-author-ne0.false
 
--- the change is the one that the numbers make
+-- The change is the one that the numbers make
 change_is : (c : Start) → record { mean = nano (stored c.args.mean); curvature = curvature (stored c.args.curvature); temperature = tenths (stored c.args.temperature) } ≡ change c
 change_is c =
     let mean = to_z-of_z c.ranges.mean in
