@@ -87,6 +87,7 @@ fn is_start(tried: &[u8], state: &[u8]) -> bool
 }
 
 // 12 or 15, or 0 where neither applies (SPEC 16.4).
+#[tactic(auto, using(crate::proofs::TrialLaws::keep_stops, crate::proofs::TrialLaws::keep_refused, crate::proofs::TrialLaws::keep_kept, crate::proofs::TrialLaws::keep_elsewhere))]
 fn keep_number(tried: &[u8], state: &[u8], next: usize) -> u64
     requires { length tried.now ≡ trial_length }
     ensures { numbered result (next_in tried.now) ≡ first_of (keep_refusals tried.now state.now next) (next_in tried.now) }
