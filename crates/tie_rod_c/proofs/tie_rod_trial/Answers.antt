@@ -8,6 +8,6 @@ pub pack-requires : goal.pack-requires
 pack-requires c =
     let a = c.args in
     let asked = trial_with a.pair.now a.row.now a.next.now in
-    let is = ap (λ (l : TrialLeft). l.left) c.trial.ensures ∙ trial_single a.sheet.now a.state.now asked in
-    let small = reply_small is (call_small a.sheet.now a.state.now (as_single asked)) in
+    let is = ap (λ (l : TrialLeft). l.left) c.trial.ensures ∙ trial_single _ _ asked in
+    let small = reply_small is (call_small _ _ (as_single asked)) in
     (small.number.0, small.place)
