@@ -1,6 +1,7 @@
 // Standard input and output (SPEC 12.8, 12.10). What the system reads and prints is in no contract, so these functions have no equation.
-ghost use Rattle.std.specs.Prelude.{◌≡◌, length};
+ghost use Rattle.std.specs.Prelude.{◌≡◌, ◌<◌, IfOk, length, take};
 ghost use Rattle.std.specs.Io.{ReadsAtMost};
+ghost use Rattle.std.specs.Io.KnownBytes.{Consumes, IsAtEnd};
 
 use crate::walk;
 use std::io::{Read, Result};
@@ -19,9 +20,12 @@ pub fn print_text(rt: &impl Print, log: &[u8]) -> Result<()> {
     rt.write_all(&out[..count])
 }
 
-// Reads until the buffer is full or the input ends: answers how many bytes it put at the start.
+// Reads until the buffer is full or the input ends: answers how many bytes it put at the start. They are the input's next ones, where those
+// are known, and fewer than the buffer holds only where no more come.
 pub fn read_full<R: Read>(input: &mut R, buffer: &mut [u8]) -> Result<usize>
-    ensures { ReadsAtMost result buffer.new }
+    ensures most { ReadsAtMost result buffer.new }
+    ensures bytes { IfOk result (λ n. Consumes (R.remaining input.old) (R.remaining input.new) (take n buffer.new)) }
+    ensures whole { IfOk result (λ n. n < length buffer.new → IsAtEnd (R.remaining input.new)) }
 {
     let mut done = 0;
     while done < buffer.len() {
