@@ -20,8 +20,6 @@ MARKS = r"\s*(?:(?:pub|abbrev|unfoldable)\s+)*"
 OUR = {os.path.basename(os.path.dirname(p)) for p in glob.glob("crates/*/src")}
 # Lemmas that port.py had given these names, which definitions take now.
 THERE = ["told_of", "no_second", "told_in", "all_right", "limits_of", "carried_on", "start_at"]
-# A lemma whose name would be a field's of src/.
-FIELDS = ["yielded_pairs"]
 # Arguments of definitions and lemmas.
 LOCAL = ["limitT", "limitC", "floorT", "floorC", "storedA", "storedB", "tangentsT", "tangentsC", "lengthsT", "lengthsC", "isAbscissa"]
 SKIP = {"use", "module", "infix", "infixl", "infixr", "where", "let", "in", "elim", "record", "unfolding", "open"}
@@ -97,7 +95,7 @@ def new_names():
     out = {n: respelled(n) for n in own if respelled(n) != n and n not in lib}
     count = collections.Counter(out.values())
     for old, new in list(out.items()):
-        if "-" in old and (count[new] > 1 or new in own or new in THERE or new in FIELDS):
+        if "-" in old and (count[new] > 1 or new in own or new in THERE):
             out[old] = new + "_lem"
     taken = set(out.values())
     out.update((n, n + "_lem") for n in THERE if n in taken)

@@ -63,13 +63,13 @@ behind_at_point p (q ∷ rest) rises =
 pub behind_floor : (p q : Point) (rest : List Point) (t : ℤ) → rises_from p (q ∷ rest) ≡ true → le_z t q.temperature.0 ≡ true
     → behind p (q ∷ rest) t ≡ floor_f (line p q t)
 unfolding behind rises_from
-behind_floor p q rest t rises up_to_lem = by_test (le_z q.temperature.0 t) refl
+behind_floor p q rest t rises up_to = by_test (le_z q.temperature.0 t) refl
   where
     by_test : (reached : Bool) → le_z q.temperature.0 t ≡ reached → cond reached (behind q rest t) (floor_f (line p q t)) ≡ floor_f (line p q t)
     by_test true reached =
         let tq = q.temperature.0 in
         let (rise, onward) = both_hold (lt_z p.temperature.0 tq) (rises_from q rest) rises in
-        let same : t ≡ tq = equal_parts t tq (omega (arith, order_of_test t tq up_to_lem, order_of_test tq t reached)) in
+        let same : t ≡ tq = equal_parts t tq (omega (arith, order_of_test t tq up_to, order_of_test tq t reached)) in
         rw same (behind_at_point q rest onward ∙ sym (line_at_second p q rise))
     by_test false reached = refl
 
@@ -79,12 +79,12 @@ pub coefficient_behind : (single : ℕ) (front : List Point) (p : Point) (rest :
 unfolding coefficient_in temperatures_rise
 coefficient_behind single [] p rest t rises reached = by_test (le_z t p.temperature.0) refl
   where
-    by_test : (up_to_lem : Bool) → le_z t p.temperature.0 ≡ up_to_lem → cond up_to_lem (pos p.coefficient.0) (behind p rest t) ≡ behind p rest t
-    by_test true up_to_lem =
+    by_test : (up_to : Bool) → le_z t p.temperature.0 ≡ up_to → cond up_to (pos p.coefficient.0) (behind p rest t) ≡ behind p rest t
+    by_test true up_to =
         let tp = p.temperature.0 in
-        let same : t ≡ tp = equal_parts t tp (omega (arith, order_of_test t tp up_to_lem, order_of_test tp t reached)) in
+        let same : t ≡ tp = equal_parts t tp (omega (arith, order_of_test t tp up_to, order_of_test tp t reached)) in
         rw same (sym (behind_at_point p rest rises))
-    by_test false up_to_lem = refl
+    by_test false up_to = refl
 coefficient_behind single (r ∷ front) p rest t rises reached =
     let tr = r.temperature.0 in
     let tp = p.temperature.0 in

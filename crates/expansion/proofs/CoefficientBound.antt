@@ -56,7 +56,7 @@ unfolding coefficient_in
 coefficient_in_range single [] t most all = (single, refl, most)
 coefficient_in_range single (p ∷ rest) t most (right, all) = by_test (le_z t p.temperature.0) refl
   where
-    by_test : (up_to_lem : Bool) → le_z t p.temperature.0 ≡ up_to_lem → InRange (cond up_to_lem (pos p.coefficient.0) (behind p rest t))
+    by_test : (up_to : Bool) → le_z t p.temperature.0 ≡ up_to → InRange (cond up_to (pos p.coefficient.0) (behind p rest t))
     by_test true e = own_in_range p right
     by_test false e =
         behind_in_range p rest t right (below_is_at_most p.temperature.0 t (below_of_not_at_most p.temperature.0 t e)) all

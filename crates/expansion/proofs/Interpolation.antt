@@ -38,9 +38,9 @@ module _ (single : ℕ) (l : List Point) (rises : temperatures_rise l ≡ true) 
   interpolates t =
       record {
         none = λ is. ap (λ (l : List Point). coefficient_in single l t) is;
-        first = λ p rest is up_to_lem.
+        first = λ p rest is up_to.
             ap (λ (l : List Point). coefficient_in single l t) is
-            ∙ ap (λ (b : Bool). cond b (pos p.coefficient.0) (behind p rest t)) (test_of_at_most up_to_lem);
+            ∙ ap (λ (b : Bool). cond b (pos p.coefficient.0) (behind p rest t)) (test_of_at_most up_to);
         last = λ front p is reached. from_point front p [] t is reached;
         between = λ front p q rest is from to. rw (to_next front p q rest t is from to) (floor_is (line p q t));
       }
@@ -78,7 +78,7 @@ unfolding coefficient_in
 interpolates_only single [] t a i = i.none refl
 interpolates_only single (p ∷ rest) t a i = by_test (le_z t p.temperature.0) refl
   where
-    by_test : (up_to_lem : Bool) → le_z t p.temperature.0 ≡ up_to_lem → a ≡ cond up_to_lem (pos p.coefficient.0) (behind p rest t)
+    by_test : (up_to : Bool) → le_z t p.temperature.0 ≡ up_to → a ≡ cond up_to (pos p.coefficient.0) (behind p rest t)
     by_test true e = i.first p rest refl (at_most_of_test e)
     by_test false e =
         only_behind single (p ∷ rest) t a i [] p rest refl

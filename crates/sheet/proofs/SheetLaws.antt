@@ -16,7 +16,8 @@ use Rattle.ranges.specs.Ranges.{most_expansion, most_yield, most_length}
 use Rattle.law.specs.declared.Law.{Law}
 use Rattle.law.specs.declared.Law.TheVariants.{IsotropicLine, IsotropicCurve, Kinematic, Asymmetric}
 use Rattle.expansion.specs.Points.{most_points, no_point}
-use Rattle.bits.specs.Field.{within}
+use Rattle.bits.specs.Field.{within, unsigned_if}
+use Rattle.bits.specs.declared.Unsigned.{Unsigned}
 use Rattle.bits.proofs.FieldLaws.{field_at_below}
 use Rattle.bits.proofs.RangeLaws.{within_itself}
 use Rattle.sheet.specs.SheetLayout.{header_layout, most_points_counted}
@@ -40,6 +41,10 @@ points_fit s right =
     let counts = (three_hold (sheet_counts_right s) (constants_right s (point_count s)) (yields_right s (law_in s)) right).0 in
     let points = (three_hold (within 1 (most_tension (law_in s)) (tension_count s)) (eqb (compression_count s) (compression_of (law_in s))) (within 0 most_points (point_count s)) counts).2 in
     leb-true (point_count s) most_points (both_hold (leb 0 (point_count s)) (leb (point_count s) most_points) points).1
+
+-- What a reader answers under its bounds, where these are the rule.
+pub read_under : {answer : Unsigned} {bounds right : Bool} (x : ℕ) → bounds ≡ right → answer ≡ unsigned_if bounds x → unsigned_if right x ≡ answer
+read_under x same e = ap (λ (t : Bool). unsigned_if t x) (sym same) ∙ sym e
 
 -- A range from 0 on has one bound.
 pub within_from_zero : (most x : ℕ) → within 0 most x ≡ leb x most

@@ -67,7 +67,7 @@ read_fits s =
       first = (whole_of_field s 104 64 (omega arith)).1;
       second = (whole_of_field s 168 64 (omega arith)).1;
       pairs = field_below s 232 32;
-      yielded_pairs_lem = field_below s 264 32;
+      yielded_pairs = field_below s 264 32;
     }
 
 -- and so does a rod in its ranges, where 64 bits hold its second variable and 32 bits its n.
@@ -81,7 +81,7 @@ in_range_fits r e second n =
       first = omega (arith, first_magnitude (first_is_abscissa r.law) r.first.0 in-ranges.first, mag_at_most r.first.0);
       second = second;
       pairs = n;
-      yielded_pairs_lem = omega (arith, leb-true r.yielded_pairs r.pairs (both_hold _ _ in-ranges.counts).0);
+      yielded_pairs = omega (arith, leb-true r.yielded_pairs r.pairs (both_hold _ _ in-ranges.counts).0);
     }
 
 module _ (r : Rod) (fits : StateFits r) where

@@ -32,7 +32,7 @@ fit r fits =
     let second = bits_below 64 r.second.0 (omega arith) fits.second in
     let law = number_below_four r.law in
     let yielded = flag_below r.yielded in
-    (law, (yielded, (omega arith, (strain, (temperature, (stress, (first, (second, (fits.pairs, (fits.yielded_pairs_lem, tt))))))))))
+    (law, (yielded, (omega arith, (strain, (temperature, (stress, (first, (second, (fits.pairs, (fits.yielded_pairs, tt))))))))))
 
 module _ (r : Rod) (fits : StateFits r) (buffer : List ℕ) (at : ℕ) where
   pub put_head : at + 13 ≤ length buffer

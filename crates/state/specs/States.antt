@@ -74,7 +74,7 @@ pub record StateFits (r : Rod) : Type 0 where
   pub first : Held (width_at state_layout 6) r.first.0
   pub second : Held (width_at state_layout 7) r.second.0
   pub pairs : r.pairs < 2 ^ width_at state_layout 8
-  pub yielded_pairs_lem : r.yielded_pairs < 2 ^ width_at state_layout 9
+  pub yielded_pairs : r.yielded_pairs < 2 ^ width_at state_layout 9
 
 -- SPEC 3.4, 3.11: the bytes of a rod.
 unfoldable pub state_bytes : Rod → List ℕ

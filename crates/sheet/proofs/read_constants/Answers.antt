@@ -1,4 +1,4 @@
-use Rattle.std.proofs.Common.{arith, ℕ, List, Bool, ◌≡◌, sym, ap, ◌∙◌, cond}
+use Rattle.std.proofs.Common.{arith, ℕ, List, ◌≡◌, sym, ap, ◌∙◌, cond}
 use mathlib.Core.Bool.{and-false}
 use lib.Dec.{eqb}
 use Rattle.bits.specs.declared.Unsigned.{Unsigned}
@@ -8,7 +8,7 @@ use Rattle.bits.proofs.RangeLaws.{unsigned_if_out, unsigned_if_in, signed_if_out
 use Rattle.bits.proofs.LayoutLaws.{word_of_field}
 use Rattle.sheet.specs.Sheets.{expansion_in, expansion_right, constants_right}
 use Rattle.sheet.specs.ReaderAnswers.{constants_in}
-use Rattle.sheet.proofs.SheetLaws.{expansion_bounds}
+use Rattle.sheet.proofs.SheetLaws.{read_under, expansion_bounds}
 use Rattle.sheet.proofs.read_constants.Goals as goal
 
 -- The expansion's answer, with the bounds that the count of points gives.
@@ -16,9 +16,7 @@ expansion_read : (s : List ℕ) (points most : ℕ) (answer : Unsigned) → most
     → answer ≡ unsigned_if (within 0 most (expansion_in s)) (expansion_in s)
     → unsigned_if (expansion_right points (expansion_in s)) (expansion_in s) ≡ answer
 expansion_read s points most answer m e =
-    let x = expansion_in s in
-    let bounds = ap (λ (most : ℕ). within 0 most x) m ∙ expansion_bounds points x in
-    ap (λ (right : Bool). unsigned_if right x) (sym bounds) ∙ sym e
+    read_under (expansion_in s) (ap (λ (most : ℕ). within 0 most (expansion_in s)) m ∙ expansion_bounds points (expansion_in s)) e
 
 pub returns-in_default : goal.returns-in_default
 unfolding constants_in constants_right

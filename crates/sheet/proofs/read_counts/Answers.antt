@@ -9,6 +9,7 @@ use Rattle.law.specs.Laws.{law_of}
 use Rattle.sheet.specs.SheetLayout.{header_layout}
 use Rattle.sheet.specs.Sheets.{law_in, tension_count, compression_count, most_tension, compression_of, sheet_counts_right}
 use Rattle.sheet.specs.ReaderAnswers.{counts_in}
+use Rattle.sheet.proofs.SheetLaws.{read_under}
 use Rattle.sheet.proofs.read_counts.Goals as goal
 
 pub of-law-requires : goal.of-law-requires
@@ -19,15 +20,13 @@ tension_read : (s : List ℕ) (law : Law) (most : ℕ) (answer : Unsigned) → l
     → answer ≡ unsigned_if (within 1 most (tension_count s)) (tension_count s)
     → unsigned_if (within 1 (most_tension (law_in s)) (tension_count s)) (tension_count s) ≡ answer
 tension_read s law most answer l m e =
-    let x = tension_count s in
-    ap (λ (n : ℕ). unsigned_if (within 1 n x) x) (sym (m ∙ ap most_tension l)) ∙ sym e
+    read_under (tension_count s) (ap (λ (n : ℕ). within 1 n (tension_count s)) (m ∙ ap most_tension l)) e
 
 compression_read : (s : List ℕ) (law : Law) (sides : ℕ) (answer : Unsigned) → law ≡ law_in s → sides ≡ compression_of law
     → answer ≡ unsigned_if (within sides sides (compression_count s)) (compression_count s)
     → unsigned_if (within (compression_of (law_in s)) (compression_of (law_in s)) (compression_count s)) (compression_count s) ≡ answer
 compression_read s law sides answer l m e =
-    let x = compression_count s in
-    ap (λ (n : ℕ). unsigned_if (within n n x) x) (sym (m ∙ ap compression_of l)) ∙ sym e
+    read_under (compression_count s) (ap (λ (n : ℕ). within n n (compression_count s)) (m ∙ ap compression_of l)) e
 
 pub returns-in_default : goal.returns-in_default
 unfolding counts_in sheet_counts_right

@@ -1,4 +1,4 @@
-use Rattle.std.proofs.Common.{arith, refl, ℕ, List, Bool, true, ◌≡◌, ◌+◌, ◌*◌, sym, ap, ◌∙◌}
+use Rattle.std.proofs.Common.{arith, refl, ℕ, List, true, ◌≡◌, ◌+◌, ◌*◌, sym, ap, ◌∙◌}
 use Rattle.bits.specs.declared.Unsigned.{Unsigned}
 use Rattle.ranges.specs.Ranges.{most_length}
 use Rattle.bits.specs.Field.{within, unsigned_if}
@@ -6,7 +6,7 @@ use Rattle.bits.proofs.RangeLaws.{unsigned_if_out, unsigned_if_in}
 use Rattle.curve.specs.Sides.{most_segments, flat}
 use Rattle.sheet.specs.Sheets.{segment_length_in, length_right, lengths_right, all_below, segment_in, listed}
 use Rattle.sheet.specs.ReaderAnswers.{least_length, segments_read}
-use Rattle.sheet.proofs.SheetLaws.{length_bounds, all_below_more, all_below_stops, placed_more}
+use Rattle.sheet.proofs.SheetLaws.{read_under, length_bounds, all_below_more, all_below_stops, placed_more}
 use Rattle.sheet.proofs.read_segments.Goals as goal
 
 -- The answer on a segment's length, with the bounds that its place gives.
@@ -15,8 +15,7 @@ length_read : (s : List ℕ) (first count i least : ℕ) (answer : Unsigned) →
     → unsigned_if (length_right s first count i) (segment_length_in s (first + i)) ≡ answer
 length_read s first count i least answer l e =
     let x = segment_length_in s (first + i) in
-    let bounds = ap (λ (n : ℕ). within n (n * most_length) x) l ∙ length_bounds s first count i in
-    ap (λ (right : Bool). unsigned_if right x) (sym bounds) ∙ sym e
+    read_under x (ap (λ (n : ℕ). within n (n * most_length) x) l ∙ length_bounds s first count i) e
 
 pub loop-i-init : goal.loop-i-init
 unfolding all_below listed

@@ -1,4 +1,4 @@
-use Rattle.std.proofs.Common.{arith, ℕ, List, ◌*◌, Bool, ◌≡◌, sym, ap, ◌∙◌}
+use Rattle.std.proofs.Common.{arith, ℕ, List, ◌*◌, ◌≡◌, sym, ap, ◌∙◌}
 use mathlib.Core.Bool.{and-false}
 use Rattle.law.specs.declared.Law.{Law}
 use Rattle.bits.specs.declared.Unsigned.{Unsigned}
@@ -9,7 +9,7 @@ use Rattle.bits.proofs.RangeLaws.{unsigned_if_out, unsigned_if_in, within_itself
 use Rattle.sheet.specs.SheetLayout.{header_layout}
 use Rattle.sheet.specs.Sheets.{compression_yield, compression_yield_right, compression_of, yields_right}
 use Rattle.sheet.specs.ReaderAnswers.{yields_in}
-use Rattle.sheet.proofs.SheetLaws.{compression_yield_bounds}
+use Rattle.sheet.proofs.SheetLaws.{read_under, compression_yield_bounds}
 use Rattle.sheet.proofs.read_yields.Goals as goal
 
 -- The compression yield's answer, with the bounds that the law gives.
@@ -18,8 +18,7 @@ compression_read : (s : List ℕ) (law : Law) (sides : ℕ) (answer : Unsigned) 
     → unsigned_if (compression_yield_right law (compression_yield s)) (compression_yield s) ≡ answer
 compression_read s law sides answer m e =
     let y = compression_yield s in
-    let bounds = ap (λ (n : ℕ). within n (n * most_yield) y) m ∙ compression_yield_bounds law y in
-    ap (λ (right : Bool). unsigned_if right y) (sym bounds) ∙ sym e
+    read_under y (ap (λ (n : ℕ). within n (n * most_yield) y) m ∙ compression_yield_bounds law y) e
 
 pub returns-in_default : goal.returns-in_default
 unfolding yields_in yields_right

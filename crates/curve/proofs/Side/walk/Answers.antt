@@ -41,7 +41,7 @@ returns-clause-value c =
 
 -- SPEC 4.11: the loop begins with the invariant and keeps it from turn to turn. By it each i that the loop reaches is a segment of the side,
 -- what is carried there is T at its start less the yield, and what is left of the abscissa lies beyond that start.
-pub walk_carries : goal.loop-i-init × goal.loop-i-preserved × ((l : Live-loop-i) → invariant-loop-i l → (some : 0 < l.modulus.0)
+pub walk_carries : goal.loop-i-init × goal.loop-i-preserved × ((l : Live-loop-i) → (inv : invariant-loop-i l)
     → let E = l.modulus.0 in let curve = curve_of l.self in
-    (l.i < l.self.count) × Carries E some curve l.i l.rise.0 × ((span_at E curve l.i).start + l.past.0 ≡ l.fn.abscissa.0))
-walk_carries = (loop-i-init, loop-i-preserved, λ l inv some. (inv.index, inv.carries some, inv.lies))
+    (l.i < l.self.count) × Carries E inv.readable.modulus_positive curve l.i l.rise.0 × ((span_at E curve l.i).start + l.past.0 ≡ l.fn.abscissa.0))
+walk_carries = (loop-i-init, loop-i-preserved, λ l inv. (inv.index, inv.carries inv.readable.modulus_positive, inv.lies))
