@@ -7,7 +7,7 @@ use native.Mathlib.Nat.{add-zero}
 use native.Mathlib.Omega.{arith}
 use lib.IntN.{ℤ, pos, negsuc, neg_ℤ, ◌+ℤ◌}
 use Rattle.fractions.specs.Fraction.{Frac, ◌≤F◌, ◌<F◌, ◌≈F◌, whole, ◌+F◌, neg_f, Within}
-use Rattle.fractions.proofs.Common.{is_same, is_whole, is_whole_one, is_add, is_neg_lem, is_le, is_lt, at-common}
+use Rattle.fractions.proofs.Common.{is_same, is_whole, is_whole_one, is_add, is_negated, is_le, is_lt, at-common}
 use Rattle.fractions.proofs.Comparison.{≤F-of-<F, ≤F-of-≈F, ≤F-trans, <F-≤F-trans, ≤F-or-<F, ≈F-refl, ≈F-sym, le_f_true, le_f_false}
 use Rattle.fractions.proofs.Cases.{cond_cases}
 use Rattle.fractions.proofs.Arithmetic.{is_within, whole_neg, within_sym, within_same, within_weaken, within_add, within_neg}
@@ -91,7 +91,7 @@ exact_cases {tension} {compression} curve curve' trial A B p p' =
         }
       where
         up : whole (pos 0) ≤F neg_f trial
-        up = at-common (trial ∷ []) (λ d ((_, _, i), _). let zero = is_whole (pos 0) i.some in (is_le zero (is_neg_lem i)).1
+        up = at-common (trial ∷ []) (λ d ((_, _, i), _). let zero = is_whole (pos 0) i.some in (is_le zero (is_negated i)).1
             (omega (arith, (is_lt i zero).0 s)))
 
     flows_down : compression.limit B <F neg_f trial
@@ -169,13 +169,13 @@ module _ {tension compression : Side} (curve : Hardens tension) (curve' : Harden
       sum =
           at-common (whole (pos m) ∷ trial ∷ [])
           (λ d ((_, _, i), ((_, _, t), _)).
-          (is_le (is_add i (is_same (≈F-sym e.trial_negated) (is_neg_lem t))) (is_whole (pos k) i.some)).1 (omega (arith, (is_within k i t).0 near)))
+          (is_le (is_add i (is_same (≈F-sym e.trial_negated) (is_negated t))) (is_whole (pos k) i.some)).1 (omega (arith, (is_within k i t).0 near)))
 
       stresses : Within (k + g) (whole (pos mag)) stress
       stresses =
           at-common (whole (pos mag) ∷ stress ∷ [])
           (λ d ((_, _, i), ((_, _, q), _)).
-          let j = is_same (≈F-sym e.stress_negated) (is_neg_lem q) in
+          let j = is_same (≈F-sym e.stress_negated) (is_negated q) in
           let n = is_whole (pos (k + g)) i.some in
           let h = (is_le (is_add i j) n).0 (magnitudes_small k g sum (no_more_than_trial move) (no_more_than_trial e.up.move)) in
           let zero = is_whole (pos 0) i.some in

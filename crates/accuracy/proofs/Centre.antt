@@ -7,7 +7,7 @@ use native.Mathlib.Nat.{mul-le-mul_left, le_dest}
 use native.Mathlib.Omega.{arith}
 use lib.IntN.{pos}
 use Rattle.fractions.specs.Fraction.{Frac, ◌≤F◌, ◌<F◌, ◌≈F◌, whole, ◌+F◌, neg_f, ◌-F◌, times_f, Within}
-use Rattle.fractions.proofs.Common.{is_whole, is_scale, is_add, is_neg_lem, is_sub, is_times, is_le, is_lt, is_eq, at-common}
+use Rattle.fractions.proofs.Common.{is_whole, is_scale, is_add, is_negated, is_sub, is_times, is_le, is_lt, is_eq, at-common}
 use Rattle.fractions.proofs.Arithmetic.{Near, is_within}
 use Rattle.fractions.proofs.Secant.{mul_gap}
 
@@ -63,9 +63,9 @@ module _ {E t : ℕ} {h : 0 < E} (slope : t ≤ E) {g : ℕ} {y s x q x' : Frac}
       let on = (is_le j v).0 b.on in
       let behind = (is_le (is_add v r) i).0 stays_behind in
       let radius = (is_eq u (is_add v r)).0 b.radius in
-      let on' = (is_le (is_neg_lem c₀) (is_neg_lem v₀)).0 b'.on in
-      let behind₀ = (is_le (is_add (is_neg_lem v₀) r) (is_neg_lem z₀)).0 behind' in
-      let radius' = (is_eq (is_neg_lem w₀) (is_add (is_neg_lem v₀) r)).0 b'.radius in (
+      let on' = (is_le (is_negated c₀) (is_negated v₀)).0 b'.on in
+      let behind₀ = (is_le (is_add (is_negated v₀) r) (is_negated z₀)).0 behind' in
+      let radius' = (is_eq (is_negated w₀) (is_add (is_negated v₀) r)).0 b'.radius in (
         (is_within k u w₀).1 (record { above = omega arith; below = omega arith }),
         (is_within k v v₀).1 (record { above = omega arith; below = omega arith }),
       ))

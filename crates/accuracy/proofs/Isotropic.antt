@@ -62,8 +62,8 @@ module _ {side : Side} (curve : Hardens side) (flat : Flattens side) {limit : �
       trial : ℤ
       trial = stress +ℤ w
 
-      exact_trial_lem : Frac
-      exact_trial_lem = exact-stress +F whole w
+      unrounded_trial : Frac
+      unrounded_trial = exact-stress +F whole w
 
       r : SideStored
       r = side_stored limit (nat_abs trial) A
@@ -72,18 +72,18 @@ module _ {side : Side} (curve : Hardens side) (flat : Flattens side) {limit : �
       g = flag r.yielded
 
       b : ExactNumbers
-      b = isotropic side exact_trial_lem exact-A
+      b = isotropic side unrounded_trial exact-A
 
-      near : Within k (whole trial) exact_trial_lem
+      near : Within k (whole trial) unrounded_trial
       near = within_add stress w c.stress_close
 
       move : Move side g (abs_f (whole trial)) (whole (pos A)) (whole (pos r.magnitude)) (whole (pos r.abscissa))
       move = rw whole_abs (stored_move curve floor A (nat_abs trial) c.limit_close.past)
 
-      exact : ExactMove side exact_trial_lem exact-A b.stress b.variable
-      exact = exact_move curve exact_trial_lem exact-A c.limit_close.exact_past
+      exact : ExactMove side unrounded_trial exact-A b.stress b.variable
+      exact = exact_move curve unrounded_trial exact-A c.limit_close.exact_past
 
-      signed_back : Within (k + g) (signed_f (whole trial) (whole (pos r.magnitude))) (signed_f exact_trial_lem exact.magnitude)
+      signed_back : Within (k + g) (signed_f (whole trial) (whole (pos r.magnitude))) (signed_f unrounded_trial exact.magnitude)
           → Within (k + g) (whole (signed trial (pos r.magnitude))) b.stress
       signed_back h = rw whole_signed at (within_same h (≈F-refl (signed_f (whole trial) (whole (pos r.magnitude)))) (≈F-sym exact.signed))
 
@@ -101,20 +101,20 @@ module _ {side : Side} (curve : Hardens side) (flat : Flattens side) {limit : �
                 };
           }
 
-      alike : Alike (whole trial) exact_trial_lem → IsotropicClose side (k + g) (signed trial (pos r.magnitude)) r.abscissa b.stress
+      alike : Alike (whole trial) unrounded_trial → IsotropicClose side (k + g) (signed trial (pos r.magnitude)) r.abscissa b.stress
           b.variable
       alike a =
           let (stresses, limits) = same_signs curve flat c.limit_close.past c.limit_close.exact_past move exact.move
           (a.magnitudes near) c.limit_close.close in
           made (signed_back (a.back stresses)) limits
 
-      unlike : Unlike (whole trial) exact_trial_lem → IsotropicClose side (k + g) (signed trial (pos r.magnitude)) r.abscissa b.stress
+      unlike : Unlike (whole trial) unrounded_trial → IsotropicClose side (k + g) (signed trial (pos r.magnitude)) r.abscissa b.stress
           b.variable
       unlike u =
           let sum = u.magnitudes near in
           let p = c.limit_close.past in
           let p' = c.limit_close.exact_past in
-          let first = limits_apart curve p p' move (trial_small k g sum (abs_not_negative exact_trial_lem)) c.limit_close.close in
+          let first = limits_apart curve p p' move (trial_small k g sum (abs_not_negative unrounded_trial)) c.limit_close.close in
           let both = limits_apart curve p' (stays_past curve p move) exact.move
           (exact_trial_small k g sum (abs_not_negative (whole trial))) (within_sym first) in
           made (signed_back (u.back not_negative exact.not_negative

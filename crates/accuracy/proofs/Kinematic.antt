@@ -11,7 +11,7 @@ use lib.IntN.{ℤ, pos, negsuc, neg_ℤ, nat_abs, ◌+ℤ◌, ◌-ℤ◌, neg_�
 use Rattle.fractions.specs.Fraction.{Frac, ◌≤F◌, ◌<F◌, ◌≈F◌, whole, ◌+F◌, neg_f, ◌-F◌, abs_f, signed, signed_f, times_f, Within}
 use Rattle.fractions.specs.Rounding.{Floor}
 use Rattle.fractions.proofs.UpDown.{up, dn, abs_parts, add_parts, sub-parts-ℤ}
-use Rattle.fractions.proofs.Common.{is_same, is_whole, is_whole_one, is_add, is_neg_lem, is_sub, is_abs, is_le, is_lt, is_eq, at-common}
+use Rattle.fractions.proofs.Common.{is_same, is_whole, is_whole_one, is_add, is_negated, is_sub, is_abs, is_le, is_lt, is_eq, at-common}
 use Rattle.fractions.proofs.Comparison.{≤F-refl, ≤F-of-≈F, ≤F-trans, ≈F-refl, ≈F-sym, ≈F-trans, le_f_true, le_f_false}
 use Rattle.fractions.proofs.Cases.{cond_cases}
 use Rattle.fractions.proofs.Arithmetic.{add_same, sub_same, times_same, times_not_negative, add_mono, whole_add, whole_neg, within_sym, within_same, within_weaken, within_add, within_neg}
@@ -43,8 +43,8 @@ inside_turn false {y} {s} {x} n =
     at-common (y ∷ s ∷ x ∷ [])
     (λ d ((_, _, r), ((_, _, i), ((_, _, j), _))).
     record {
-      above = (is_le (is_neg_lem i) (is_add (is_neg_lem j) r)).1 (omega (arith, (is_le j (is_add i r)).0 n.below));
-      below = (is_le (is_neg_lem j) (is_add (is_neg_lem i) r)).1 (omega (arith, (is_le i (is_add j r)).0 n.above));
+      above = (is_le (is_negated i) (is_add (is_negated j) r)).1 (omega (arith, (is_le j (is_add i r)).0 n.below));
+      below = (is_le (is_negated j) (is_add (is_negated i) r)).1 (omega (arith, (is_le i (is_add j r)).0 n.above));
     })
 
 -- Inside the radius, or beyond it on one side.
@@ -88,7 +88,7 @@ exact_inside {y} {s} {x} l =
 -- What has the sign of v beside a sum, on the side of v.
 neg_sum : (a b : Frac) {c : Frac} → c ≈F neg_f b → neg_f (a +F c) ≈F (neg_f a +F b)
 neg_sum a b {c} e = at-common (a ∷ b ∷ [])
-    (λ d ((_, _, i), ((_, _, j), _)). (is_eq (is_neg_lem (is_add i (is_same (≈F-sym e) (is_neg_lem j)))) (is_add (is_neg_lem i) j)).1 (omega arith))
+    (λ d ((_, _, i), ((_, _, j), _)). (is_eq (is_negated (is_add i (is_same (≈F-sym e) (is_negated j)))) (is_add (is_negated i) j)).1 (omega arith))
 
 module _ {E t : ℕ} {h : 0 < E} {y : Frac} where
   exact_beyond : {s x q x' : Frac} → (x +F y) <F s → x' ≈F (x +F times_f (s -F x -F y) t E h) → q ≈F (x' +F y) → Beyond E t h 0 y s x q x'
@@ -148,8 +148,8 @@ module _ {E t : ℕ} {h : 0 < E} {y : Frac} where
           (λ d ((_, _, r), ((_, _, i), ((_, _, j), _))).
           let past = (is_lt r (is_abs (is_sub i j))).0 l in
           let side = (is_lt (is_sub i j) (is_whole (pos 0) r.some)).0 u in
-          let size : abs_f v ≈F (neg_f s -F neg_f x) = (is_eq (is_abs (is_sub i j)) (is_sub (is_neg_lem i) (is_neg_lem j))).1 (omega arith) in
-          exact_beyond ((is_lt (is_add (is_neg_lem j) r) (is_neg_lem i)).1 (omega arith))
+          let size : abs_f v ≈F (neg_f s -F neg_f x) = (is_eq (is_abs (is_sub i j)) (is_sub (is_negated i) (is_negated j))).1 (omega arith) in
+          exact_beyond ((is_lt (is_add (is_negated j) r) (is_negated i)).1 (omega arith))
           (≈F-trans (neg_sum x share (sign share)) (add_same (≈F-refl (neg_f x)) (times_same t E h (sub_same size (≈F-refl y)))))
           (neg_sum x' y (sign y)))
 

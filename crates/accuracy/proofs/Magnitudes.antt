@@ -14,7 +14,7 @@ use Rattle.fractions.proofs.Arithmetic.{is_within, within_sym, within_weaken, wi
 use Rattle.fractions.proofs.Secant.{secant}
 use Rattle.flow.specs.Side.{Side, Hardens, Flattens}
 use Rattle.flow.proofs.OneSide.{accumulated_mono, limit_positive}
-use Rattle.accuracy.proofs.Move.{Flows, Move, moves_on_lem, limit_rises, limit_at_most}
+use Rattle.accuracy.proofs.Move.{Flows, Move, has_grown, limit_rises, limit_at_most}
 
 -- ---- One of the two flows, the other stays inside its limit
 
@@ -129,10 +129,10 @@ module _ {side : Side} (curve : Hardens side) (flat : Flattens side) {k g : ℕ}
   limits_kept = ⊎_elim rounded_ahead exact_ahead (≤F-or-<F e b)
     where
       on : a ≤F b
-      on = ≤F-of-<F (moves_on_lem curve p f)
+      on = ≤F-of-<F (has_grown curve p f)
 
       on' : c ≤F e
-      on' = ≤F-of-<F (moves_on_lem curve p' f')
+      on' = ≤F-of-<F (has_grown curve p' f')
 
       rounded_ahead : e ≤F b → (side.limit b ≤F (side.limit e +F whole (pos (k + g)))) × (side.limit e ≤F (side.limit b +F whole (pos k)))
       rounded_ahead q = (
@@ -183,7 +183,7 @@ same_signs curve flat p p' (inr f) (inr f') h l = both_flow curve flat p p' f f'
 module _ {side : Side} {g : ℕ} {x a y b : Frac} where
   pub stays_past : Hardens side → side.yield ≤F a → Move side g x a y b → side.yield ≤F b
   stays_past curve p (inl r) = ≤F-trans p (≤F-of-≈F (≈F-sym r.abscissa))
-  stays_past curve p (inr f) = ≤F-trans p (≤F-of-<F (moves_on_lem curve p f))
+  stays_past curve p (inr f) = ≤F-trans p (≤F-of-<F (has_grown curve p f))
 
   pub no_more_than_trial : Move side g x a y b → y ≤F x
   no_more_than_trial (inl r) = ≤F-of-≈F r.magnitude

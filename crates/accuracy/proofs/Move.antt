@@ -31,14 +31,14 @@ abbrev pub Move : Side → ℕ → (x a y b : Frac) → Type 0
 Move side g x a y b = Rests side x a y b ⊎ Flows side g x a y b
 
 module _ {side : Side} (curve : Hardens side) {g : ℕ} {x a y b : Frac} (p : side.yield ≤F a) (f : Flows side g x a y b) where
-  pub moves_on_lem : a <F b
-  moves_on_lem =
+  pub has_grown : a <F b
+  has_grown =
       at-common (x ∷ a ∷ b ∷ side.limit a ∷ [])
       (λ d ((_, _, i), ((_, _, j), ((_, _, k), ((_, _, r), _)))).
       (is_lt j k).1 (omega (arith, (is_lt r i).0 f.passes, (is_le (is_add j i) (is_add k r)).0 f.least)))
 
   pub limit_rises : side.limit a ≤F side.limit b
-  limit_rises = curve.rises p (≤F-of-<F moves_on_lem)
+  limit_rises = curve.rises p (≤F-of-<F has_grown)
 
   -- The limit goes no further than the trial, but for the rounding.
   pub limit_at_most : side.limit b ≤F (x +F whole (pos g))
@@ -49,6 +49,6 @@ module _ {side : Side} (curve : Hardens side) {g : ℕ} {x a y b : Frac} (p : si
       (is_le s (is_add i w)).1
       (omega (
         arith,
-        (is_le (is_sub j r) (is_sub k s)).0 (accumulated_mono curve p (≤F-of-<F moves_on_lem)),
+        (is_le (is_sub j r) (is_sub k s)).0 (accumulated_mono curve p (≤F-of-<F has_grown)),
         (is_le (is_add k r) (is_add (is_add j i) w)).0 f.most,
       )))

@@ -1,6 +1,6 @@
 -- Laws of whole numbers with a sign, as the machine holds them, and of tests between them.
 use Prim.Native.Nat.{ℕ, zero, suc, ◌+◌, ◌-◌, ◌*◌, ◌/◌, ◌%◌, ◌^◌, ◌≤◌, ◌<◌}
-use mathlib.Core.Path.{◌≡◌, refl, sym, ap, ap₂, ◌∙◌}
+use mathlib.Core.Path.{◌≡◌, refl, ap, ◌∙◌}
 use mathlib.Core.Bool.{Bool, true, false, not, true≢false, cond}
 use native.Mathlib.Nat.{one-mul, mod-eq_of_lt, add-mod_right}
 use native.Mathlib.Omega.{arith}
@@ -11,12 +11,8 @@ use lib.Pow.{pow_mono, pow_pos, ones_split, ones_lt, high, shl_exact}
 use lib.Signed.{lt_z, le_z, mag}
 use mir.Facts.{to_z-of_z}
 use mir.Syntax.{w64}
-use mir.Val.{SFits, to_z, of_z}
+use mir.Val.{to_z, of_z}
 use Rattle.bits.specs.Field.{twos, bits_of, Held, flag}
-
-pub minus_one_minus : (m : ℕ) → negsuc 0 -ℤ pos m ≡ negsuc m
-minus_one_minus zero = refl
-minus_one_minus (suc m) = ap negsuc (omega arith)
 
 pub minus_one_plus : (m : ℕ) → negsuc 0 -ℤ negsuc m ≡ pos m
 minus_one_plus m = rw (le-ltb (suc m) 1 (omega arith)) (ap pos (omega arith))
@@ -44,17 +40,6 @@ le_z_is_not_lt_z (pos a) (negsuc b) = refl
 le_z_is_not_lt_z (negsuc a) (pos b) = refl
 le_z_is_not_lt_z (negsuc a) (negsuc b) = leb_is_not_ltb b a
 
--- What a test `a < b` of the machine says of the numbers that it holds, where it holds and where it doesn't.
-module _ {a b : ℤ} (fa : SFits w64 a) (fb : SFits w64 b) where
-  test_is : {t : Bool} → lt_z (to_z w64 (of_z w64 a)) (to_z w64 (of_z w64 b)) ≡ t → le_z b a ≡ not t
-  test_is e = le_z_is_not_lt_z a b ∙ ap not (sym (ap₂ lt_z (to_z-of_z fa) (to_z-of_z fb)) ∙ e)
-
-  pub above : lt_z (to_z w64 (of_z w64 a)) (to_z w64 (of_z w64 b)) ≡ true → le_z b a ≡ false
-  above e = test_is e
-
-  pub not_above : lt_z (to_z w64 (of_z w64 a)) (to_z w64 (of_z w64 b)) ≡ false → le_z b a ≡ true
-  not_above e = test_is e
-
 -- A number that a word holds comes out as it went in.
 pub held_as : {z y : ℤ} → mag z < 2 ^ 63 → z ≡ y → to_z w64 (of_z w64 z) ≡ y
 held_as h e = to_z-of_z {w = w64} (record { sfits = h }) ∙ e
@@ -62,9 +47,6 @@ held_as h e = to_z-of_z {w = w64} (record { sfits = h }) ∙ e
 -- So does a number that some width holds, where it is passed on.
 pub passed : (w : ℕ) (z : ℤ) → Held w z → w ≤ 64 → to_z w64 (of_z w64 z) ≡ z
 passed w z h l = held_as (omega (arith, pow_mono {i = w - 1} {j = 63} (omega arith))) refl
-
-pub held_passed : (w : ℕ) (z : ℤ) → Held w z → w ≤ 64 → Held w (to_z w64 (of_z w64 z))
-held_passed w z h l = rw (passed w z h l) h
 
 -- The greatest number of some width is all ones of 64 bits, shifted down.
 pub ones_shifted : (w : ℕ) → w ≤ 64 → 18446744073709551615 / 2 ^ (64 - w) ≡ 2 ^ w - 1
@@ -85,19 +67,10 @@ half (suc n) h = rw (sub_one_suc n) (omega arith)
     sub_one_suc : (n : ℕ) → suc n - 1 ≡ n
     sub_one_suc n = omega arith
 
--- Bits whose distance to the greatest number is not the lesser stand for themselves,
-pub twos_low : (w x : ℕ) → 1 ≤ w → x < 2 ^ w → x ≤ 2 ^ w - 1 - x → (twos w x ≡ pos x) × (x < 2 ^ (w - 1))
+-- All bits of a word stand for what the machine takes them for.
+pub twos_of_word : (w x : ℕ) → w ≡ 64 → to_z w64 x ≡ twos w x
 unfolding twos
-twos_low w x h b l =
-    let small : x < 2 ^ (w - 1) = omega (arith, half w h) in
-    (rw (lt-ltb x (2 ^ (w - 1)) small), small)
-
--- and other bits for the number that lies that distance below minus one.
-pub twos_high : (w x : ℕ) → 1 ≤ w → x < 2 ^ w → 2 ^ w - 1 - x < x → (twos w x ≡ negsuc (2 ^ w - 1 - x)) × (2 ^ w - 1 - x < 2 ^ (w - 1))
-unfolding twos
-twos_high w x h b l =
-    let large : 2 ^ (w - 1) ≤ x = omega (arith, half w h) in
-    (rw (le-ltb x (2 ^ (w - 1)) large), omega (arith, half w h))
+twos_of_word w x e = rw e (ap (λ (k : ℕ). cond (ltb x (2 ^ 63)) (pos x) (negsuc k)) (omega arith))
 
 -- Two numbers, the second not zero: their difference where the first is not below the second, and where it is.
 difference_up : (a h : ℕ) → 0 < h → pos (a + h) -ℤ pos h ≡ pos a

@@ -1,11 +1,7 @@
 -- A field of bits in bytes (SPEC 3.1 to 3.3, 3.6), which every layout is read and written by, for any bytes of any length; definitions
 -- only, nothing is assumed.
-use Rattle.std.specs.Prelude.{ℕ, zero, suc, ◌+◌, ◌-◌, ◌*◌, ◌/◌, ◌%◌, ◌^◌, ◌<◌, Bool, true, false, ◌&&◌, cond, List, get_or, ℤ, pos, negsuc, ltb, leb}
+use Rattle.std.specs.Prelude.{ℕ, zero, suc, ◌+◌, ◌-◌, ◌*◌, ◌/◌, ◌%◌, ◌^◌, ◌<◌, Bool, true, false, ◌&&◌, cond, Option, Some, None, List, get_or, ℤ, pos, negsuc, ltb, leb}
 use Rattle.std.specs.Int.Signed.{le_z, mag}
-use Rattle.bits.specs.declared.Unsigned.{Unsigned}
-use Rattle.bits.specs.declared.Unsigned.TheVariants as unsigned
-use Rattle.bits.specs.declared.Signed.{Signed}
-use Rattle.bits.specs.declared.Signed.TheVariants as signed
 
 -- SPEC 3.1: bit k of the bytes. The first is the most significant one of the first byte; behind the last byte a bit is 0.
 abbrev pub bit : List ℕ → ℕ → ℕ
@@ -42,18 +38,6 @@ within least most x = leb least x && leb x most
 abbrev pub withinℤ : ℤ → ℤ → ℤ → Bool
 withinℤ least most z = le_z least z && le_z z most
 
--- SPEC 3.6: what reading a field comes to, the number where it is right and "out of range" elsewhere,
-unfoldable pub unsigned_if : Bool → ℕ → Unsigned
-unsigned_if right x = cond right (unsigned.Value x) unsigned.OutOfRange
-
--- and the same for a signed field.
-unfoldable pub signed_if : Bool → ℤ → Signed
-signed_if right z = cond right (signed.Value z) signed.OutOfRange
-
--- SPEC 3.6: a field with bounds is right where it lies within them,
-abbrev pub unsigned_of : List ℕ → ℕ → ℕ → ℕ → ℕ → Unsigned
-unsigned_of s at width least most = unsigned_if (within least most (field s at width)) (field s at width)
-
--- and so is a signed one.
-abbrev pub signed_of : List ℕ → ℕ → ℕ → ℤ → ℤ → Signed
-signed_of s at width least most = signed_if (withinℤ least most (twos width (field s at width))) (twos width (field s at width))
+-- SPEC 3.6: what reading a field comes to: its number where it is right, and else none.
+unfoldable pub some_if : {A : Type 0} → Bool → A → Option A
+some_if right x = cond right (Some x) None

@@ -4,46 +4,40 @@
 ghost use Rattle.std.specs.Prelude.{◌≡◌};
 ghost use Rattle.branch.specs.Branches.{branch_number, branch_of, yielded_by};
 
-#[derive(Clone, Copy)]
+#[derive(Clone, Copy, PartialEq, Eq)]
 pub enum Branch {
     Elastic,
     Tension,
     Compression,
 }
 
-impl Branch {
-    // The branch of a number; any above 2 is read as elastic.
+impl From<Branch> for u64 {
+    ghost from_gives = { λ branch number. number ≡ branch_number branch };
+
+    fn from(branch: Branch) -> u64 {
+        branch as u64
+    }
+}
+
+// Any number above 2 is read as elastic.
+impl From<u64> for Branch {
+    ghost from_gives = { λ number branch. branch ≡ branch_of number };
+
     #[tactic(auto, unfolding(crate::specs::Branches::branch_of))]
-    pub fn of(number: u64) -> Branch
-        ensures { result ≡ branch_of number }
-    {
-        if number == 1 {
-            return Branch::Tension;
-        }
-        if number == 2 {
-            return Branch::Compression;
-        }
-        Branch::Elastic
-    }
-
-    pub fn number(self) -> u64
-        ensures { result ≡ branch_number self }
-    {
-        match self {
-            Branch::Elastic => 0,
-            Branch::Tension => 1,
-            Branch::Compression => 2,
+    fn from(number: u64) -> Branch {
+        match number {
+            1 => Branch::Tension,
+            2 => Branch::Compression,
+            _ => Branch::Elastic,
         }
     }
+}
 
+impl Branch {
     // Whether the rod flowed.
     pub fn yielded(self) -> bool
         ensures { result ≡ yielded_by self }
     {
-        match self {
-            Branch::Elastic => false,
-            Branch::Tension => true,
-            Branch::Compression => true,
-        }
+        self != Branch::Elastic
     }
 }

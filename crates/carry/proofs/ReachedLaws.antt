@@ -1,36 +1,27 @@
 -- What goes along with a rod (SPEC 7.12, 7.15): after each accepted pair it is again the rod's own.
-use Prim.Native.Nat.{ℕ}
 use mathlib.Core.Path.{◌≡◌, refl, sym, ap, subst, ◌∙◌}
-use mathlib.Core.List.{List}
-use native.Mathlib.Omega.{arith}
-use Rattle.refusals.specs.Table.{Answer, passes, refused, first_of}
+use Rattle.refusals.specs.Table.{passes, first_of}
 use Rattle.refusals.proofs.FirstLaws.{passes_given}
 use Rattle.units.specs.Kinds.{nano}
 use Rattle.units.specs.declared.Nano.{Nano}
 use Rattle.sheet.specs.declared.Sheet.{Sheet}
 use Rattle.sheet.specs.Thermal.{thermal_of}
 use Rattle.pair.specs.declared.Pair.{Pair}
-use Rattle.row.specs.declared.Row.{Row}
 use Rattle.response.specs.declared.Limits.{Limits}
 use Rattle.response.specs.Limits.{limits_of, limits_after}
 use Rattle.response.proofs.LimitLaws.{limits_kept}
 use Rattle.rod.specs.declared.step.Advance.{Advance}
-use Rattle.rod.specs.Steps.{trial_of, thermal_strains_of, step_refusals, advance_of}
+use Rattle.rod.specs.Steps.{trial_of, step_refusals, advance_of}
 use Rattle.carry.specs.declared.Reached.{Reached}
-use Rattle.carry.specs.declared.Carried.{Carried}
-use Rattle.carry.specs.Walk.{pair_answer}
-use Rattle.carry.specs.Reaching.{reached_of, with_reached, Stands}
-use Rattle.carry.proofs.PairAnswers.{next_passes}
+use Rattle.carry.specs.Reaching.{reached_of, Stands}
+use Rattle.rod.specs.Accepted.{PairAccepted}
+use Rattle.state.proofs.Passing.{next_state_passes}
 
-pub limits_stand : {h : Sheet} {x : Reached} → Stands h x → x.limits ≡ limits_of h x.rod.first.0 x.rod.second.0
+limits_stand : {h : Sheet} {x : Reached} → Stands h x → x.limits ≡ limits_of h x.rod.first.0 x.rod.second.0
 limits_stand s = ap (λ (y : Reached). y.limits) s.reached
 
-pub thermals_stand : {h : Sheet} {x : Reached} (p : Pair) {after : Nano} → Stands h x → after ≡ nano (thermal_of h p.temperature.0)
-    → record { before = x.thermal; after = after } ≡ thermal_strains_of h x.rod p
-thermals_stand p s is = λ i. record { before = (s.reached i).thermal; after = is i }
-
 -- What kept-up limits and the thermal strain of the pair make of the rod after an accepted pair.
-pub reached_next : {h : Sheet} {x : Reached} (p : Pair) {a : Advance} {l : Limits} {w : Nano} → Stands h x
+reached_next : {h : Sheet} {x : Reached} (p : Pair) {a : Advance} {l : Limits} {w : Nano} → Stands h x
     → first_of (step_refusals h x.rod p) (advance_of h x.rod p) ≡ passes a → l ≡ limits_after h.law a.row.yielded a.row.stress.0 x.limits
     → w ≡ nano (thermal_of h p.temperature.0) → record { rod = a.rod; limits = l; thermal = w } ≡ reached_of h a.rod
 unfolding advance_of
@@ -44,29 +35,9 @@ reached_next {h} {x} p {a} {l} {w} stands e is warm =
     let thermal : w ≡ nano (thermal_of h a.rod.temperature.0) = warm ∙ ap (λ (b : Advance). nano (thermal_of h b.rod.temperature.0)) (passes_given (step_refusals h r p) (advance_of h r p) e) in
     λ i. record { rod = a.rod; limits = same i; thermal = thermal i }
 
--- The rod after an accepted pair stands again.
-pub stands_next : {h : Sheet} {x y : Reached} (pair : List ℕ) {a : Advance} → Stands h x → pair_answer h x.rod pair ≡ passes a → y ≡ reached_of h a.rod → Stands h y
-stands_next {h} pair {a} stands e is =
-    subst (Stands h) (sym is) (record { accepted = (next_passes pair stands.accepted e).0.accepted; reached = refl })
-
--- What an accepted trial leads to: the pair's table passes with this rod and row, and what goes along is the rod's own.
-pub record Leads (h : Sheet) (x : Answer Advance) (to : Reached) (row : Row) : Type 0 where
-  pub answer : x ≡ passes (record { rod = to.rod; row = row })
-  pub own : to ≡ reached_of h to.rod
-
-pub tried_accepted : (h : Sheet) (x : Answer Advance) {c : Carried} → passes c ≡ with_reached h x → Leads h x c.to c.row
-tried_accepted h (passes a) {c} e =
-    let same : c ≡ record { to = reached_of h a.rod; row = a.row } = cc in
-    record {
-      answer = λ i. passes (record { rod = (sym same i).to.rod; row = (sym same i).row });
-      own = (λ i. (same i).to) ∙ (λ i. reached_of h (sym same i).to.rod);
-    }
-tried_accepted h (refused n) {c} e = let z : ◌≡◌ {A = ℕ} 0 1 = cc in absurd (omega arith)
-
--- Kept, it leads to the same.
-pub kept_leads : {h : Sheet} {x : Answer Advance} {to kept : Reached} {row : Row} → Leads h x to row → kept ≡ to → Leads h x kept row
-kept_leads {h} {x} {row} leads is = subst (λ (y : Reached). Leads h x y row) (sym is) leads
-
-pub tried_refused : (h : Sheet) (x : Answer Advance) {n : ℕ} → refused n ≡ with_reached h x → x ≡ refused n
-tried_refused h (passes a) {n} e = let z : ◌≡◌ {A = ℕ} 0 1 = cc in absurd (omega arith)
-tried_refused h (refused m) {n} e = let same : n ≡ m = cc in ap refused (sym same)
+-- So the rod after an accepted pair stands again.
+pub stands_next : {h : Sheet} {x : Reached} (p : Pair) {a : Advance} {l : Limits} {w : Nano} → Stands h x → PairAccepted p
+    → first_of (step_refusals h x.rod p) (advance_of h x.rod p) ≡ passes a → l ≡ limits_after h.law a.row.yielded a.row.stress.0 x.limits
+    → w ≡ nano (thermal_of h p.temperature.0) → Stands h (record { rod = a.rod; limits = l; thermal = w })
+stands_next {h} p stands pair e is warm =
+    subst (Stands h) (sym (reached_next p stands e is warm)) (record { accepted = (next_state_passes p stands.accepted pair e).accepted; reached = refl })

@@ -94,9 +94,9 @@ module _ {e : Modulus} {side : Side} {a carried past i : ℕ} (r : Reached e sid
       rw (over, (carries_sum e.0 some (curve_of side) i carried).0 (r.carries some), gap) (omega arith)
 
   -- and the tangent is the segment's.
-  tangent_at_lem : Stops → tangent_at e.0 (curve_of side) a ≡ tangent_of side i
+  tangent_is : Stops → tangent_at e.0 (curve_of side) a ≡ tangent_of side i
   unfolding tangent_at
-  tangent_at_lem stops =
+  tangent_is stops =
       tangent_of_holder e.0 a (curve_of side).yield (curve_of side).segments (span_at e.0 (curve_of side) i) (span_member e.0 side fits i r.index) (holds_abscissa stops)
       ∙ span_tangent e.0 side fits i r.index
 
@@ -106,7 +106,7 @@ module _ {e : Modulus} {side : Side} {a carried past i : ℕ} (r : Reached e sid
   unfolding reading_of limit_at tangent_at
   stop stops reading is abscissa same =
       let share : past * tangent_of side i / e.0 ≤ past = div-le_of_le-mul e.0 (omega (arith, mul-le-mul_right past (r.readable.tangents_fit i r.index))) in (
-        rw (is, same, sum_at stops, mul-add-div r.readable.modulus_positive (yield_of side + carried) (past * tangent_of side i), tangent_at_lem stops),
+        rw (is, same, sum_at stops, mul-add-div r.readable.modulus_positive (yield_of side + carried) (past * tangent_of side i), tangent_is stops),
         rw (is, same) (omega (arith, r.room)),
       )
 

@@ -1,4 +1,4 @@
--- What reading carries along the curve (SPEC 4.11), cited by the invariant of `Side::walk`; definitions only, nothing is assumed.
+-- What reading carries along the curve (SPEC 4.11), cited by the invariant of `TractionCurve::walk`; definitions only, nothing is assumed.
 use Rattle.std.specs.Prelude.{ℕ, ◌<◌, pos, get_or}
 use Rattle.fractions.specs.Fraction.{whole, ◌≈F◌, ◌-F◌}
 use Rattle.curve.specs.Curve.{Curve, limit_f}

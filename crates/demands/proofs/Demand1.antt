@@ -12,7 +12,7 @@ use lib.Dec.{eqb}
 use lib.ListN.{length, get_or, drop, length-append}
 use lib.Seq.{take_at}
 use Rattle.refusals.specs.Table.{Answer, passes, refused, first_of, NoneApplies, Given, numbers_of}
-use Rattle.refusals.proofs.FirstLaws.{Numbered, answer_number_lem, none_passes, none_split, given_refused, decides, first_follows}
+use Rattle.refusals.proofs.FirstLaws.{Numbered, number_stands, none_passes, none_split, given_refused, decides, first_follows}
 use Rattle.pair.specs.Pairs.{pair_length, pair_refusals, list_refusals}
 use Rattle.row.specs.Rows.{row_length}
 use Rattle.sheet.specs.declared.Sheet.{Sheet}
@@ -75,11 +75,11 @@ module _ (sheet state : List ℕ) (c : Call) where
 
   pub standing_number : {n : ℕ} → Given (standing_refusals sheet state) n → Some n
   standing_number g =
-      (answer_number_lem Numbered (standing_refusals sheet state) ready (standing_numbers sheet state) (given_refused (standing_refusals sheet state) ready g)).0
+      (number_stands Numbered (standing_refusals sheet state) ready (standing_numbers sheet state) (given_refused (standing_refusals sheet state) ready g)).0
 
   pub call_number : {n : ℕ} → Given (call_refusals c) n → Some n
   call_number g =
-      (answer_number_lem Numbered (call_refusals c) ready (call_numbers c.kind (length c.pairs) (length c.rows) (length c.next))
+      (number_stands Numbered (call_refusals c) ready (call_numbers c.kind (length c.pairs) (length c.rows) (length c.next))
       (given_refused (call_refusals c) ready g)).0
 
   -- and one whose pairs were walked.
@@ -183,23 +183,23 @@ module _ (sheet state : List ℕ) (c : Call) where
   told : leaves.reply.accepted ≡ accepted_in sheet state c
   told = by_standing (decides (standing_refusals sheet state))
     where
-      told_of_lem : {l : Left} → leaves ≡ l → leaves.reply.accepted ≡ l.reply.accepted
-      told_of_lem e = ap (λ (l : Left). l.reply.accepted) e
+      told_alike : {l : Left} → leaves ≡ l → leaves.reply.accepted ≡ l.reply.accepted
+      told_alike e = ap (λ (l : Left). l.reply.accepted) e
 
       by_end : NoneApplies (standing_refusals sheet state) → NoneApplies (call_refusals c) → Ends → leaves.reply.accepted ≡ accepted_in sheet state c
       by_end none own (inl all) =
           let e = when_all none own all.advances all.history in
-          told_of_lem e ∙ counted (count_in c.pairs) all.advances all.history ∙ sym (accepted_of e)
-      by_end none own (inr (m, n, f)) = told_of_lem (when_until none own f) ∙ counted m f.advances f.history ∙ sym (accepted_until none own f)
+          told_alike e ∙ counted (count_in c.pairs) all.advances all.history ∙ sym (accepted_of e)
+      by_end none own (inr (m, n, f)) = told_alike (when_until none own f) ∙ counted m f.advances f.history ∙ sym (accepted_until none own f)
 
       by_call : NoneApplies (standing_refusals sheet state) → ((n : ℕ) × Given (call_refusals c) n) ⊎ NoneApplies (call_refusals c)
           → leaves.reply.accepted ≡ accepted_in sheet state c
-      by_call none (inl (n, g)) = let e = when_call none g in told_of_lem e ∙ sym (accepted_none state (call_number g) e)
+      by_call none (inl (n, g)) = let e = when_call none g in told_alike e ∙ sym (accepted_none state (call_number g) e)
       by_call none (inr own) = by_end none own pairs_end
 
       by_standing : ((n : ℕ) × Given (standing_refusals sheet state) n) ⊎ NoneApplies (standing_refusals sheet state)
           → leaves.reply.accepted ≡ accepted_in sheet state c
-      by_standing (inl (n, g)) = let e = when_standing g in told_of_lem e ∙ sym (accepted_none zero_state (standing_number g) e)
+      by_standing (inl (n, g)) = let e = when_standing g in told_alike e ∙ sym (accepted_none zero_state (standing_number g) e)
       by_standing (inr none) = by_call none (decides (call_refusals c))
 
   -- ---- The lent buffers
@@ -355,7 +355,7 @@ module _ (sheet state : List ℕ) (c : Call) where
         exactly = exactly;
         told = told;
         standing_leaves = λ n g. untouched (when_standing g);
-        call_leaves_lem = λ n w. untouched (when_call w.standing w.given);
+        by_call_leaves = λ n w. untouched (when_call w.standing w.given);
         pairs_leave = pairs_leave;
         accepts = accepts;
         same = same;

@@ -21,7 +21,7 @@ use Rattle.state.specs.States.{state_of}
 use Rattle.rod.specs.Steps.{trial_of, outcome_after, advance_of, step_refusals}
 use Rattle.rod.specs.Accepted.{Accepted}
 use Rattle.rod.proofs.PairSolved.{pair_solved, pair_one_limit, pair_shows}
-use Rattle.rod.proofs.PlasticStrain.{plastic_change_lem, unused_plastic}
+use Rattle.rod.proofs.PlasticStrain.{plastic_changes, unused_plastic}
 use Rattle.carry.specs.Walk.{pair_table, last_rod, rows_of, History}
 use Rattle.carry.proofs.PairAnswers.{pair_passed}
 use Rattle.carry.proofs.Histories.{last_append, rows_append, history_same}
@@ -51,7 +51,7 @@ module _ {h : Sheet} (sound : SheetSound h) where
         solved = outcome_solved r p a;
         next_is = refl;
         row_is = refl;
-        plastic = plastic_change_lem h r p (outcome_after h r p).stress;
+        plastic = plastic_changes h r p (outcome_after h r p).stress;
         row_plastic = refl;
         shown = pair_shows a p;
       }

@@ -190,9 +190,9 @@ module _ (sheet : List ℕ) (passed : first_of (sheet_refusals sheet) (sheet_of 
       omega (arith, (holds x).within.n_counted, (holds later).within.n_counted, ap (λ (l : List ℕ). (state_of l).pairs) same, longer)
 
   module _ {s : Situation} (x : Reached s) (k : Keeping) where
-    as_single_lem : (kept_in sheet s.state k).number ≡ 0 → after_keeping sheet s k ≡ after_call sheet s (as_single k.trial)
+    same_as_single : (kept_in sheet s.state k).number ≡ 0 → after_keeping sheet s k ≡ after_call sheet s (as_single k.trial)
     unfolding trial_leaves
-    as_single_lem e =
+    same_as_single e =
         ap (λ (b : Bool). cond b (with_trial sheet s k.start k.trial (kept_in sheet s.state k).next) s) (eq-eqb _ 0 e)
         ∙ kept_stop x k e ∙ sym (single_leads sheet s k.trial.pair k.trial.row k.trial.next (here x k e))
 
@@ -203,7 +203,7 @@ module _ (sheet : List ℕ) (passed : first_of (sheet_refusals sheet) (sheet_of 
           behind = holds (keeping_reached x k);
           from = from x k;
           accepted = accepted x k;
-          as_single_lem = as_single_lem;
+          same_as_single = same_as_single;
           kept_back = (keeping_answered sheet k.start k.trial s.state k.next).kept_back;
           marked = λ e. subst (λ (l : List ℕ). Marked h sound (state_of s.state) (pair_of k.trial.pair) (row_in (tried_in sheet l k.trial)))
               (sym (from x k e)) ((at_trial x k.trial).marked (here x k e));

@@ -13,7 +13,7 @@ use lib.Signed.{lt_z, ◌≤ℤ◌, ◌<ℤ◌, le_z_yes, lt_z_yes}
 use Rattle.fractions.specs.Fraction.{whole, Within}
 use Rattle.fractions.proofs.Arithmetic.{close_through, far_through}
 use Rattle.refusals.specs.Table.{Given}
-use Rattle.refusals.proofs.FirstLaws.{Numbered, answer_number_lem, given_refused}
+use Rattle.refusals.proofs.FirstLaws.{Numbered, number_stands, given_refused}
 use Rattle.bits.proofs.SignLaws.{le_z_is_not_lt_z}
 use Rattle.units.specs.declared.Grain.{Grain}
 use Rattle.row.specs.declared.Row.{Row}
@@ -97,7 +97,7 @@ module _ (sheet : List ℕ) (sound : SheetSound (sheet_of sheet)) (s : Situation
   numberless e = sym (ap (λ (v : Verdict). v.number) e)
 
   no_own : {n : ℕ} → Given (grading_refusals g) n → n ≡ 0 → ⊥
-  no_own given = (answer_number_lem Numbered (grading_refusals g) g (grading_numbers g) (given_refused (grading_refusals g) g given)).0
+  no_own given = (number_stands Numbered (grading_refusals g) g (grading_numbers g) (given_refused (grading_refusals g) g given)).0
 
   -- and says which of them.
   same_row : {row other : ℕ} → verdict 0 0 row ≡ verdict 0 0 other → row ≡ other

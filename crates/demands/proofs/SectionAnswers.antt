@@ -10,7 +10,7 @@ use borrow.Author.Tests.{eq-eqb}
 use lib.IntN.{nat_abs, ◌+ℤ◌}
 use lib.ListN.{length}
 use Rattle.refusals.specs.Table.{Refusal, refusal, Answer, passes, refused, first_of, NoneApplies, Given, Decided}
-use Rattle.refusals.proofs.FirstLaws.{Numbered, none_passes, passes_none_applies, given_refused, refused_given, both_pass, decides, answer_number_lem}
+use Rattle.refusals.proofs.FirstLaws.{Numbered, none_passes, passes_none_applies, given_refused, refused_given, both_pass, decides, number_stands}
 use Rattle.sheet.specs.declared.Sheet.{Sheet}
 use Rattle.sheet.specs.Sheets.{sheet_of, sheet_refusals, sheet_field_refusals}
 use Rattle.sheet.specs.Sound.{SheetSound}
@@ -238,7 +238,7 @@ module _ (sheet : List ℕ) (c : Change) (ms : List Member) where
       let v = advance_of h (state_of m.state) (member_pair c m) in
       let behind = (state_field_refusals m.state ++ against_refusals h (state_of m.state)) ++ (refusal 8 (not (pair_in_range (member_pair c m))) ∷ step_refusals h (state_of m.state) (member_pair c m)) in
       let e : first_of behind v ≡ refused 4 = rw (eq-eqb (length m.state) state_length long) at (given_refused (member_table h c m) v g) in
-      answer_number_lem (λ (n : ℕ). n ≡ 4 → ⊥) behind v
+      number_stands (λ (n : ℕ). n ≡ 4 → ⊥) behind v
       ((λ z. omega (arith, z)), ((λ z. omega (arith, z)), ((λ z. omega (arith, z)), ((λ z. omega (arith, z)), ((λ z. omega (arith, z)), tt))))) e refl
 
   pub section_answered : SectionAnswered sheet c ms
@@ -248,7 +248,7 @@ module _ (sheet : List ℕ) (c : Change) (ms : List Member) where
         order = refl;
         member_order = λ m. refl;
         exactly = λ number place. (told_reason number place, reason_told number place);
-        turned_away_lem = turned;
+        is_turned_away = turned;
         refused_alone = alone;
         all_move = without_number (λ (l : SectionLeft). EachAfter (MovedAlone sheet c) ms l.members)
             (λ advances none pass. let (passed, sound) = sheet_passes none in moved_alone passed sound ms advances pass);

@@ -66,7 +66,7 @@ module _ (trial offered next : List ℕ) where
 
 module _ (sheet start : List ℕ) (t : Trial) where
   pub trial_answered : TrialAnswered sheet start t
-  trial_answered = record { as_single_lem = trial_single sheet start t; long = made_long sheet start t }
+  trial_answered = record { same_as_single = trial_single sheet start t; long = made_long sheet start t }
 
   module _ (offered next : List ℕ) where
     abbrev leaves : Kept

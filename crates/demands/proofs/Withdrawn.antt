@@ -4,7 +4,7 @@ use mathlib.Core.Path.{◌≡◌, refl}
 use mathlib.Core.List.{List}
 use lib.ListN.{length}
 use Rattle.refusals.specs.Table.{Answer, passes, refused, first_of}
-use Rattle.refusals.proofs.FirstLaws.{InUse, zero_in_use, Numbered, answer_number_lem, number_given}
+use Rattle.refusals.proofs.FirstLaws.{InUse, zero_in_use, Numbered, number_stands, number_given}
 use Rattle.sheet.specs.Sheets.{sheet_of, sheet_refusals, sheet_field_refusals}
 use Rattle.state.specs.States.{state_of, state_bytes}
 use Rattle.rod.specs.Forecast.{forecast_of}
@@ -35,6 +35,6 @@ not_withdrawn sheet state =
       gradings = λ g. (grade_small sheet state g).number.1;
       sections = λ c members. (section_bounds sheet c members).0.1;
       forecast = λ e.
-          (answer_number_lem Numbered (standing_refusals sheet state) (forecast_of (sheet_of sheet) (state_of state)) (standing_numbers sheet state) e).1.1 refl;
+          (number_stands Numbered (standing_refusals sheet state) (forecast_of (sheet_of sheet) (state_of state)) (standing_numbers sheet state) e).1.1 refl;
       unused = λ e. (number_given (sheet_refusals sheet) (state_bytes (unused_of (sheet_of sheet))) refl e).1.1 refl;
     }

@@ -104,7 +104,7 @@ pub record CallAnswered (sheet state : List ℕ) (c : Call) : Type 0 where
   pub told : (call_leaves sheet state c).reply.accepted ≡ accepted_in sheet state c
   -- what a call leaves, by the stage that refused it (SPEC 8.6)
   pub standing_leaves : (n : ℕ) → Given (standing_refusals sheet state) n → Untouched zero_state c (call_leaves sheet state c)
-  pub call_leaves_lem : (n : ℕ) → ByCall sheet state c n 0 → Untouched state c (call_leaves sheet state c)
+  pub by_call_leaves : (n : ℕ) → ByCall sheet state c n 0 → Untouched state c (call_leaves sheet state c)
   pub pairs_leave : (accepts : Accepts sheet state c (accepted_in sheet state c))
       → Written (state_of state) c (accepted_in sheet state c) accepts.advances (call_leaves sheet state c)
   -- where neither the sheet, the state nor the call is refused, as many pairs are accepted as number and place say

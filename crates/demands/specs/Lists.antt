@@ -157,7 +157,7 @@ module _ (sheet : List ℕ) where
       pub behind : Holds (after s (keeps k))
       pub from : (kept_in s.state k).number ≡ 0 → k.start ≡ s.state
       pub accepted : (kept_in s.state k).number ≡ 0 → (tried_in k.start k.trial).reply.number ≡ 0
-      pub as_single_lem : (kept_in s.state k).number ≡ 0 → after s (keeps k) ≡ after_call s (as_single k.trial)
+      pub same_as_single : (kept_in s.state k).number ≡ 0 → after s (keeps k) ≡ after_call s (as_single k.trial)
       pub kept_back : ((kept_in s.state k).number ≡ 0 → ⊥) → (kept_in s.state k).next ≡ k.next
       pub marked : (kept_in s.state k).number ≡ 0
           → Marked (sheet_of sheet) sound (state_of s.state) (pair_of k.trial.pair) (row_in (tried_in k.start k.trial))

@@ -90,7 +90,7 @@ pub record SectionAnswered (sheet : List ℕ) (c : Change) (members : List Membe
       → (((section_leaves sheet c members).reply.number ≡ number) × ((section_leaves sheet c members).reply.place ≡ place))
       ↔ SectionReason sheet c members number place
   -- beside a number force and moment are 0, and every member is as it was: area, offset and every byte of its state
-  pub turned_away_lem : (number place : ℕ) → BySection sheet c members number place ⊎ ByMember sheet c members number place
+  pub is_turned_away : (number place : ℕ) → BySection sheet c members number place ⊎ ByMember sheet c members number place
       → section_leaves sheet c members ≡ turned_away number place members
   -- SPEC 15.9: a refused member's number is the one that a lone rod of its state gets for its pair, if there is such a pair in bytes
   pub refused_alone : (number place : ℕ) (by : ByMember sheet c members number place) → pair_in_range (member_pair c by.member) ≡ true

@@ -10,7 +10,7 @@ use Rattle.demands.specs.Lists.{tried_in}
 -- SPEC 16.7: a trial answers, and leaves row and next state, as the single pair on the same bytes and buffers does, by its definition, so
 -- that CallAnswered speaks of it; and the bytes for a keeping are as many as its layout has, whatever the answer.
 pub record TrialAnswered (sheet state : List ℕ) (t : Trial) : Type 0 where
-  pub as_single_lem : tried_in sheet state t ≡ call_leaves sheet state (as_single t)
+  pub same_as_single : tried_in sheet state t ≡ call_leaves sheet state (as_single t)
   pub long : length (trial_leaves sheet state t).bytes ≡ trial_length
 
 -- SPEC 16.7: why a keeping of a trial that started from `start` has its number.

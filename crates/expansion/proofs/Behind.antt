@@ -1,19 +1,17 @@
 -- Points whose temperatures rise: the coefficient from a point on lies behind that point, whatever points come before it. Assumes nothing.
 use Prim.Native.Nat.{ℕ}
 use mathlib.Core.Path.{◌≡◌, refl, sym, ap, ◌∙◌}
-use mathlib.Core.Bool.{Bool, true, false, not, cond}
+use mathlib.Core.Bool.{Bool, true, false, cond}
 use mathlib.Core.List.{List, [], ◌∷◌, ◌++◌}
 use native.Mathlib.Omega.{arith}
 use lib.IntN.{ℤ, pos}
 use lib.Signed.{le_z, lt_z}
+use Rattle.std.proofs.lemmas.Int.{ints}
 use Rattle.refusals.proofs.FirstLaws.{both_hold}
-use Rattle.bits.proofs.SignLaws.{le_z_is_not_lt_z}
 use Rattle.fractions.specs.Rounding.{floor_f}
-use Rattle.fractions.proofs.UpDown.{equal_parts}
 use Rattle.expansion.specs.declared.Point.{Point}
 use Rattle.expansion.specs.Points.{rises_from, temperatures_rise}
 use Rattle.expansion.specs.Coefficient.{line, behind, coefficient_in}
-use Rattle.expansion.proofs.OrderTests.{order_of_test, strict_order_of_test, test_of_order, test_of_strict_order}
 use Rattle.expansion.proofs.Line.{line_at_first, line_at_second}
 
 -- A point further on is warmer, and the temperatures rise from it on.
@@ -27,7 +25,7 @@ rises_past r (f ∷ front) p rest rises =
     let tp = p.temperature.0 in
     let (first, onward) = both_hold (lt_z tr tf) (rises_from f (front ++ (p ∷ rest))) rises in
     let (second, further) = rises_past f front p rest onward in
-    (test_of_strict_order tr tp (omega (arith, strict_order_of_test tr tf first, strict_order_of_test tf tp second)), further)
+    (grind (arith, ints), further)
 
 pub rises_first : (p q : Point) (rest : List Point) → rises_from p (q ∷ rest) ≡ true → lt_z p.temperature.0 q.temperature.0 ≡ true
 rises_first p q rest rises = (rises_past p [] q rest rises).0
@@ -46,7 +44,8 @@ behind_passes r (f ∷ front) p rest t rises reached =
     let tf = f.temperature.0 in
     let tp = p.temperature.0 in
     let onward = (both_hold (lt_z r.temperature.0 tf) (rises_from f (front ++ (p ∷ rest))) rises).1 in
-    let passed = test_of_order tf t (omega (arith, strict_order_of_test tf tp (rises_past f front p rest onward).0, order_of_test tp t reached)) in
+    let rise = (rises_past f front p rest onward).0 in
+    let passed : le_z tf t ≡ true = grind (arith, ints) in
     ap (λ (b : Bool). cond b (behind f (front ++ (p ∷ rest)) t) (floor_f (line r f t))) passed ∙ behind_passes f front p rest t onward reached
 
 -- At a point's own temperature its own coefficient lies behind it.
@@ -56,7 +55,8 @@ behind_at_point p [] rises = refl
 behind_at_point p (q ∷ rest) rises =
     let tp = p.temperature.0 in
     let rise = (both_hold (lt_z tp q.temperature.0) (rises_from q rest) rises).0 in
-    ap (λ (b : Bool). cond b (behind q rest tp) (floor_f (line p q tp))) (le_z_is_not_lt_z tp q.temperature.0 ∙ ap not rise)
+    let before : le_z q.temperature.0 tp ≡ false = grind (arith, ints) in
+    ap (λ (b : Bool). cond b (behind q rest tp) (floor_f (line p q tp))) before
     ∙ line_at_first p q rise
 
 -- Up to the next point it is the line, rounded down, at the next point's temperature too.
@@ -69,7 +69,7 @@ behind_floor p q rest t rises up_to = by_test (le_z q.temperature.0 t) refl
     by_test true reached =
         let tq = q.temperature.0 in
         let (rise, onward) = both_hold (lt_z p.temperature.0 tq) (rises_from q rest) rises in
-        let same : t ≡ tq = equal_parts t tq (omega (arith, order_of_test t tq up_to, order_of_test tq t reached)) in
+        let same : t ≡ tq = grind (arith, ints) in
         rw same (behind_at_point q rest onward ∙ sym (line_at_second p q rise))
     by_test false reached = refl
 
@@ -82,12 +82,13 @@ coefficient_behind single [] p rest t rises reached = by_test (le_z t p.temperat
     by_test : (up_to : Bool) → le_z t p.temperature.0 ≡ up_to → cond up_to (pos p.coefficient.0) (behind p rest t) ≡ behind p rest t
     by_test true up_to =
         let tp = p.temperature.0 in
-        let same : t ≡ tp = equal_parts t tp (omega (arith, order_of_test t tp up_to, order_of_test tp t reached)) in
+        let same : t ≡ tp = grind (arith, ints) in
         rw same (sym (behind_at_point p rest rises))
     by_test false up_to = refl
 coefficient_behind single (r ∷ front) p rest t rises reached =
     let tr = r.temperature.0 in
     let tp = p.temperature.0 in
-    let below = test_of_strict_order tr t (omega (arith, strict_order_of_test tr tp (rises_past r front p rest rises).0, order_of_test tp t reached)) in
-    ap (λ (b : Bool). cond b (pos r.coefficient.0) (behind r (front ++ (p ∷ rest)) t)) (le_z_is_not_lt_z tr t ∙ ap not below)
+    let rise = (rises_past r front p rest rises).0 in
+    let past : le_z t tr ≡ false = grind (arith, ints) in
+    ap (λ (b : Bool). cond b (pos r.coefficient.0) (behind r (front ++ (p ∷ rest)) t)) past
     ∙ behind_passes r front p rest t rises reached

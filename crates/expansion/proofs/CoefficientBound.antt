@@ -14,7 +14,7 @@ use Rattle.expansion.specs.declared.Point.{Point}
 use Rattle.expansion.specs.declared.Coefficients.{Coefficients}
 use Rattle.expansion.specs.Points.{no_place, points_of, point_right, Usable}
 use Rattle.expansion.specs.Coefficient.{line, behind, coefficient_in, coefficient_of}
-use Rattle.expansion.proofs.OrderTests.{below_is_at_most, below_of_not_at_most}
+use Rattle.expansion.proofs.OrderTests.{below_of_not_at_most, reached_of_not}
 use Rattle.expansion.proofs.PointRanges.{coefficient_most}
 use Rattle.expansion.proofs.Line.{Between, between_ways, line_floor, line_most}
 
@@ -59,16 +59,16 @@ coefficient_in_range single (p ∷ rest) t most (right, all) = by_test (le_z t p
     by_test : (up_to : Bool) → le_z t p.temperature.0 ≡ up_to → InRange (cond up_to (pos p.coefficient.0) (behind p rest t))
     by_test true e = own_in_range p right
     by_test false e =
-        behind_in_range p rest t right (below_is_at_most p.temperature.0 t (below_of_not_at_most p.temperature.0 t e)) all
+        behind_in_range p rest t right (reached_of_not t p.temperature.0 e) all
 
-all_right_lem : (l : List Point) (n : ℕ) → ((i : ℕ) → i < n → point_right (get_or l i no_place) ≡ true) → AllRight (take n l)
-all_right_lem l zero right = tt
-all_right_lem [] (suc n) right = tt
-all_right_lem (p ∷ l) (suc n) right = (right 0 (omega arith), all_right_lem l n (λ i h. right (suc i) (omega arith)))
+taken_right : (l : List Point) (n : ℕ) → ((i : ℕ) → i < n → point_right (get_or l i no_place) ≡ true) → AllRight (take n l)
+taken_right l zero right = tt
+taken_right [] (suc n) right = tt
+taken_right (p ∷ l) (suc n) right = (right 0 (omega arith), taken_right l n (λ i h. right (suc i) (omega arith)))
 
 pub coefficient_of_in_range : (c : Coefficients) (t : ℤ) → Usable c → InRange (coefficient_of c t)
 coefficient_of_in_range c t usable =
-    coefficient_in_range c.single.0 (points_of c) t usable.single_most (all_right_lem c.points c.count usable.points_right_lem)
+    coefficient_in_range c.single.0 (points_of c) t usable.single_most (taken_right c.points c.count usable.points_right)
 
 pub coefficient_magnitude : (c : Coefficients) (t : ℤ) → Usable c → nat_abs (coefficient_of c t) ≤ most_expansion
 coefficient_magnitude c t usable = let (n, is, most) = coefficient_of_in_range c t usable in rw is most

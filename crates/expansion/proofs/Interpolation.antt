@@ -13,7 +13,7 @@ use Rattle.expansion.specs.declared.Point.{Point}
 use Rattle.expansion.specs.declared.Coefficients.{Coefficients}
 use Rattle.expansion.specs.Points.{temperatures_rise}
 use Rattle.expansion.specs.Coefficient.{line, behind, coefficient_in, coefficient_of, Interpolates}
-use Rattle.expansion.proofs.OrderTests.{test_of_at_most, at_most_of_test, below_is_at_most, below_of_not_at_most}
+use Rattle.expansion.proofs.OrderTests.{test_of_at_most, at_most_of_test, reached_of_not}
 use Rattle.expansion.proofs.Line.{ways_between, line_lies}
 use Rattle.expansion.proofs.Behind.{rises_first, rises_on, behind_at_point, behind_floor, coefficient_behind}
 
@@ -70,7 +70,7 @@ module _ (single : ℕ) (l : List Point) (t a : ℤ) (i : Interpolates single l 
       by_test : (further : Bool) → le_z q.temperature.0 t ≡ further → (q.temperature.0 ≤ℤ t → a ≡ behind q rest t) → a ≡ cond further (behind q rest t) (floor_f (line p q t))
       by_test true e onward = onward (at_most_of_test e)
       by_test false e onward =
-          let to = at_most_of_test (below_is_at_most t q.temperature.0 (below_of_not_at_most t q.temperature.0 e)) in
+          let to = at_most_of_test (reached_of_not q.temperature.0 t e) in
           floor_only a (i.between front p q rest is reached to)
 
 pub interpolates_only : (single : ℕ) (l : List Point) (t a : ℤ) → Interpolates single l t a → a ≡ coefficient_in single l t
@@ -82,7 +82,7 @@ interpolates_only single (p ∷ rest) t a i = by_test (le_z t p.temperature.0) r
     by_test true e = i.first p rest refl (at_most_of_test e)
     by_test false e =
         only_behind single (p ∷ rest) t a i [] p rest refl
-        (at_most_of_test (below_is_at_most p.temperature.0 t (below_of_not_at_most p.temperature.0 t e)))
+        (at_most_of_test (reached_of_not t p.temperature.0 e))
 
 -- Without points it is the single number, at every temperature.
 pub without_points : (c : Coefficients) (t : ℤ) → c.count ≡ 0 → coefficient_of c t ≡ pos c.single.0

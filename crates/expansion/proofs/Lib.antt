@@ -1,4 +1,5 @@
 pub mod OrderTests
+pub mod Neighbours
 pub mod PointRanges
 pub mod Line
 pub mod PointsFrom

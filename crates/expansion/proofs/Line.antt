@@ -6,17 +6,17 @@ use mathlib.Core.Bool.{true}
 use native.Mathlib.Nat.{mul-le-mul_right, div-le_of_le-mul, le-div_iff_mul-le, mul-div_right, min-le_left, min-le_right, le-max_left, le-max_right}
 use native.Mathlib.Omega.{arith}
 use lib.IntN.{ℤ, pos, nat_abs, ◌-ℤ◌, ◌*ℤ◌, +ℤ_invr}
-use lib.Signed.{le_z, lt_z, ◌≤ℤ◌, pos-nat_abs}
-use Rattle.units.proofs.Magnitudes.{difference_not_negative}
+use lib.Signed.{le_z, lt_z, ◌≤ℤ◌}
+use Rattle.std.proofs.lemmas.Int.{ints}
+use Rattle.units.proofs.Magnitudes.{difference_from}
 use Rattle.ranges.specs.Ranges.{most_expansion}
 use Rattle.fractions.specs.Rounding.{floor_f}
-use Rattle.fractions.proofs.UpDown.{up, dn, one_part, abs_parts, equal_parts, sub-parts-ℤ, mul_parts, le_of_parts}
+use Rattle.fractions.proofs.UpDown.{sub-parts-ℤ, mul_parts, le_of_parts}
 use Rattle.fractions.proofs.Common.{Is, is_whole, is_ratio, is_add, is_shift}
 use Rattle.fractions.proofs.Rounded.{floor_quotient, floor_only}
 use Rattle.expansion.specs.declared.Point.{Point}
 use Rattle.expansion.specs.Points.{point_right}
 use Rattle.expansion.specs.Coefficient.{line}
-use Rattle.expansion.proofs.OrderTests.{order_of_test, strict_order_of_test, test_of_strict_order, below_is_at_most}
 use Rattle.expansion.proofs.PointRanges.{temperature_most, coefficient_most}
 
 -- The temperature lies x past the first point and y before the second.
@@ -29,22 +29,15 @@ pub record Ways (p q : Point) (t : ℤ) (x y : ℕ) : Type 0 where
 pub ways_between : (p q : Point) (t : ℤ) → le_z p.temperature.0 t ≡ true → le_z t q.temperature.0 ≡ true → lt_z p.temperature.0 q.temperature.0 ≡ true
     → Ways p q t (nat_abs (t -ℤ p.temperature.0)) (nat_abs (q.temperature.0 -ℤ t))
 ways_between p q t from to rise =
-    let tp = p.temperature.0 in
-    let tq = q.temperature.0 in
     record {
-      past = pos-nat_abs (t -ℤ tp) (difference_not_negative t tp from);
-      rest = pos-nat_abs (tq -ℤ t) (difference_not_negative tq t to);
-      some = omega (arith, abs_parts (t -ℤ tp), abs_parts (tq -ℤ t), sub-parts-ℤ t tp, sub-parts-ℤ tq t, strict_order_of_test tp tq rise);
+      past = difference_from t p.temperature.0 from;
+      rest = difference_from q.temperature.0 t to;
+      some = grind (arith, ints);
     }
 
 module _ (p q : Point) (t : ℤ) (x y : ℕ) (w : Ways p q t x y) where
   span_is : nat_abs (q.temperature.0 -ℤ p.temperature.0) ≡ x + y
-  span_is =
-      let tp = p.temperature.0 in
-      let tq = q.temperature.0 in
-      ap nat_abs
-      (equal_parts (tq -ℤ tp) (pos (x + y))
-      (omega (arith, sub-parts-ℤ tq tp, sub-parts-ℤ tq t, sub-parts-ℤ t tp, ap up w.past, ap dn w.past, ap up w.rest, ap dn w.rest)))
+  span_is = omega (arith, ints, w.past, w.rest)
 
   pub line_is : Is (line p q t) (p.coefficient.0 * y + q.coefficient.0 * x) 0 (x + y)
   unfolding line
@@ -76,16 +69,10 @@ module _ (p q : Point) (t : ℤ) (x y : ℕ) (w : Ways p q t x y) where
 -- At its ends it is at the two coefficients.
 module _ (p q : Point) (rise : lt_z p.temperature.0 q.temperature.0 ≡ true) where
   whole_way : 0 < nat_abs (q.temperature.0 -ℤ p.temperature.0)
-  whole_way =
-      let tp = p.temperature.0 in
-      let tq = q.temperature.0 in
-      omega (arith, abs_parts (tq -ℤ tp), sub-parts-ℤ tq tp, strict_order_of_test tp tq rise)
+  whole_way = grind (arith, ints)
 
   whole_way_is : pos (nat_abs (q.temperature.0 -ℤ p.temperature.0)) ≡ q.temperature.0 -ℤ p.temperature.0
-  whole_way_is =
-      let tp = p.temperature.0 in
-      let tq = q.temperature.0 in
-      pos-nat_abs (tq -ℤ tp) (difference_not_negative tq tp (below_is_at_most tp tq rise))
+  whole_way_is = grind (arith, ints)
 
   pub line_at_first : floor_f (line p q p.temperature.0) ≡ pos p.coefficient.0
   line_at_first =
@@ -113,29 +100,17 @@ pub record Between (p q : Point) (t : ℤ) : Type 0 where
 module _ {p q : Point} {t : ℤ} (b : Between p q t) where
   pub temperatures_most : (nat_abs t ≤ 20000) × (nat_abs p.temperature.0 ≤ 20000) × (nat_abs q.temperature.0 ≤ 20000)
   temperatures_most =
-      let tp = p.temperature.0 in
-      let tq = q.temperature.0 in (
-        omega (
-          arith,
-          abs_parts t,
-          abs_parts tp,
-          abs_parts tq,
-          one_part t,
-          order_of_test tp t b.from,
-          strict_order_of_test t tq b.before,
-          temperature_most p b.right,
-          temperature_most q b.right',
-        ),
-        temperature_most p b.right,
-        temperature_most q b.right',
-      )
+      let first = temperature_most p b.right in
+      let second = temperature_most q b.right' in
+      let from = b.from in
+      let before = b.before in
+      (grind (arith, ints), first, second)
 
   pub between_ways : Ways p q t (nat_abs (t -ℤ p.temperature.0)) (nat_abs (q.temperature.0 -ℤ t))
   between_ways =
-      let tp = p.temperature.0 in
-      let tq = q.temperature.0 in
-      ways_between p q t b.from (below_is_at_most t tq b.before)
-      (test_of_strict_order tp tq (omega (arith, order_of_test tp t b.from, strict_order_of_test t tq b.before)))
+      let from = b.from in
+      let before = b.before in
+      ways_between p q t from (grind (arith, ints)) (grind (arith, ints))
 
   pub weighted_most : (m : ℕ) → (p.coefficient.0 * m ≤ most_expansion * m) × (q.coefficient.0 * m ≤ most_expansion * m)
   weighted_most m = (mul-le-mul_right m (coefficient_most p b.right), mul-le-mul_right m (coefficient_most q b.right'))
@@ -143,20 +118,13 @@ module _ {p q : Point} {t : ℤ} (b : Between p q t) where
   module _ (x y : ℕ) (past : pos x ≡ t -ℤ p.temperature.0) (rest : pos y ≡ q.temperature.0 -ℤ t) where
     pub ways : Ways p q t x y
     ways =
-        let tq = q.temperature.0 in
-        record {
-          past = past;
-          rest = rest;
-          some = omega (arith, ap up rest, ap dn rest, sub-parts-ℤ tq t, strict_order_of_test t tq b.before);
-        }
+        let before = b.before in
+        record { past = past; rest = rest; some = grind (arith, ints) }
 
     pub ways_most : (x ≤ 40000) × (y ≤ 40000)
     ways_most =
-        let tp = p.temperature.0 in
-        let tq = q.temperature.0 in (
-          omega (arith, ap up past, ap dn past, sub-parts-ℤ t tp, abs_parts t, abs_parts tp, temperatures_most),
-          omega (arith, ap up rest, ap dn rest, sub-parts-ℤ tq t, abs_parts t, abs_parts tq, temperatures_most),
-        )
+        let most = temperatures_most in
+        (omega (arith, ints), omega (arith, ints))
 
     pub line_most : (weighted : ℕ) → weighted ≡ p.coefficient.0 * y + q.coefficient.0 * x → weighted / (x + y) ≤ most_expansion
     line_most weighted e = div-le_of_le-mul (x + y) (omega (arith, weighted_most x, weighted_most y))

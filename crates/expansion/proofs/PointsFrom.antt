@@ -1,8 +1,8 @@
--- The points from the i-th on, and what is true where a walk over them has come to the i-th: whether the temperatures rise, and the
--- coefficient, are settled by the point before it and by those from it on. Assumes nothing.
+-- The points from the i-th on, and what is true where a walk over them has come to the i-th: the coefficient is settled by the point before
+-- it and by those from it on. Assumes nothing.
 use Prim.Native.Nat.{ℕ, suc, ◌+◌, ◌-◌, ◌≤◌, ◌<◌}
 use mathlib.Core.Path.{◌≡◌, refl, sym, ap, ◌∙◌}
-use mathlib.Core.Bool.{Bool, true, false, not, ◌&&◌, cond}
+use mathlib.Core.Bool.{Bool, true, false, cond}
 use mathlib.Core.List.{[], ◌∷◌}
 use native.Mathlib.Numerals.{add-one}
 use native.Mathlib.Decide.{dec_lt}
@@ -11,23 +11,19 @@ use lib.IntN.{ℤ, pos, neg_ℤ}
 use lib.ListN.{length, drop, get_or, drop_of_length-le}
 use lib.Seq.{drop-cons, get_or-take, length-take-le}
 use lib.Signed.{le_z, lt_z}
+use Rattle.std.proofs.lemmas.Int.{ints}
 use Rattle.refusals.proofs.FirstLaws.{both_hold}
 use Rattle.ranges.specs.Ranges.{temperature_right}
-use Rattle.bits.proofs.SignLaws.{le_z_is_not_lt_z}
 use Rattle.fractions.specs.Rounding.{floor_f}
 use Rattle.expansion.specs.declared.Point.{Point}
 use Rattle.expansion.specs.declared.Coefficients.{Coefficients}
-use Rattle.expansion.specs.Points.{most_points, points_of, no_place, point_right, rises_from, temperatures_rise, Usable}
+use Rattle.expansion.specs.Points.{most_points, points_of, no_place, point_right, Usable}
 use Rattle.expansion.specs.Coefficient.{line, behind, coefficient_in, coefficient_of}
-use Rattle.expansion.proofs.OrderTests.{order_of_test, below_is_at_most}
+use Rattle.expansion.proofs.OrderTests.{reached_of_not}
 
 -- Point i.
 abbrev pub point_at : Coefficients → ℕ → Point
 point_at c i = get_or c.points i no_place
-
--- Point i is reached: the point before it and those from it on settle whether the temperatures rise.
-abbrev pub RiseFrom : Coefficients → ℕ → Type 0
-RiseFrom c i = temperatures_rise (points_of c) ≡ rises_from (point_at c (i - 1)) (drop i (points_of c))
 
 -- Point i is reached, or the end; `before` is the point before it, which the temperature has reached; behind that the coefficient lies.
 pub record Reached (c : Coefficients) (t : ℤ) (before : Point) (i : ℕ) : Type 0 where
@@ -37,7 +33,10 @@ pub record Reached (c : Coefficients) (t : ℤ) (before : Point) (i : ℕ) : Typ
   pub reached : le_z before.temperature.0 t ≡ true
   pub same : coefficient_of c t ≡ behind before (drop i (points_of c)) t
 
-module _ (c : Coefficients) (fits : c.count ≤ length c.points) where
+module _ (c : Coefficients) (usable : Usable c) where
+  fits : c.count ≤ length c.points
+  fits = omega (arith, usable.count_fits, usable.places)
+
   from_point : (i : ℕ) → i < c.count → drop i (points_of c) ≡ point_at c i ∷ drop (suc i) (points_of c)
   from_point i h =
       let taken = length-take-le c.count c.points fits in
@@ -48,86 +47,58 @@ module _ (c : Coefficients) (fits : c.count ≤ length c.points) where
       let taken = length-take-le c.count c.points fits in
       drop_of_length-le (points_of c) {i = i} (omega arith)
 
-  -- ---- Whether the temperatures rise
-
-  pub rise_begins : RiseFrom c 1
-  unfolding temperatures_rise rises_from
-  rise_begins = go (dec_lt 0 c.count)
-    where
-      go : Dec (0 < c.count) → RiseFrom c 1
-      go (yes h) = ap temperatures_rise (from_point 0 h)
-      go (no h) = ap temperatures_rise (past_points 0 (omega arith)) ∙ sym (ap (rises_from (point_at c 0)) (past_points 1 (omega arith)))
-
-  -- point i is reached: its temperature and those behind it settle the rest
-  rise_at : (i : ℕ) {t : Bool} → RiseFrom c i → i < c.count → lt_z (point_at c (i - 1)).temperature.0 (point_at c i).temperature.0 ≡ t
-      → temperatures_rise (points_of c) ≡ t && rises_from (point_at c i) (drop (suc i) (points_of c))
-  unfolding rises_from
-  rise_at i same h test =
-      same ∙ ap (rises_from (point_at c (i - 1))) (from_point i h) ∙ ap (λ (t : Bool). t && rises_from (point_at c i) (drop (suc i) (points_of c))) test
-
-  pub rise_goes_on : (i : ℕ) → RiseFrom c i → i < c.count → lt_z (point_at c (i - 1)).temperature.0 (point_at c i).temperature.0 ≡ true → RiseFrom c (i + 1)
-  rise_goes_on i same h test =
-      let last : i + 1 - 1 ≡ i = omega arith in
-      rw (last, add-one i) (rise_at i same h test)
-
-  pub rise_stops : (i : ℕ) → RiseFrom c i → i < c.count → lt_z (point_at c (i - 1)).temperature.0 (point_at c i).temperature.0 ≡ false → false ≡ temperatures_rise (points_of c)
-  rise_stops i same h test = sym (rise_at i same h test)
-
-  pub rise_ends : (i : ℕ) → RiseFrom c i → c.count ≤ i → true ≡ temperatures_rise (points_of c)
-  unfolding rises_from
-  rise_ends i same h = sym (same ∙ ap (rises_from (point_at c (i - 1))) (past_points i h))
-
-  -- ---- The coefficient
-
   pub none : c.count ≡ 0 → (t : ℤ) → pos c.single.0 ≡ coefficient_of c t
   unfolding coefficient_in
   none h t = sym (ap (λ l. coefficient_in c.single.0 l t) (past_points 0 (omega arith)))
 
   -- the first point: up to it its own coefficient, else what lies behind it
-  at_first : 0 < c.count → (t : ℤ) {b : Bool} → lt_z (point_at c 0).temperature.0 t ≡ b
-      → coefficient_of c t ≡ cond (not b) (pos (point_at c 0).coefficient.0) (behind (point_at c 0) (drop 1 (points_of c)) t)
+  at_first : 0 < c.count → (t : ℤ) {b : Bool} → le_z t (point_at c 0).temperature.0 ≡ b
+      → coefficient_of c t ≡ cond b (pos (point_at c 0).coefficient.0) (behind (point_at c 0) (drop 1 (points_of c)) t)
   unfolding coefficient_in
   at_first h t test =
       let p = point_at c 0 in
       ap (λ l. coefficient_in c.single.0 l t) (from_point 0 h)
-      ∙ ap (λ b. cond b (pos p.coefficient.0) (behind p (drop 1 (points_of c)) t)) (le_z_is_not_lt_z p.temperature.0 t ∙ ap not test)
+      ∙ ap (λ b. cond b (pos p.coefficient.0) (behind p (drop 1 (points_of c)) t)) test
 
-  pub up_to_first : 0 < c.count → (t : ℤ) → lt_z (point_at c 0).temperature.0 t ≡ false → pos (point_at c 0).coefficient.0 ≡ coefficient_of c t
+  pub up_to_first : 0 < c.count → (t : ℤ) → le_z t (point_at c 0).temperature.0 ≡ true → pos (point_at c 0).coefficient.0 ≡ coefficient_of c t
   up_to_first h t test = sym (at_first h t test)
 
-  pub begun : 0 < c.count → (t : ℤ) → lt_z (point_at c 0).temperature.0 t ≡ true → Reached c t (point_at c 0) 1
+  pub begun : 0 < c.count → (t : ℤ) → le_z t (point_at c 0).temperature.0 ≡ false → Reached c t (point_at c 0) 1
   begun h t test =
       record {
         some = omega arith;
         index = omega arith;
         is_point = refl;
-        reached = below_is_at_most (point_at c 0).temperature.0 t test;
+        reached = reached_of_not t (point_at c 0).temperature.0 test;
         same = at_first h t test;
       }
 
   module _ {t : ℤ} {before : Point} {i : ℕ} (r : Reached c t before i) where
     -- the next point: before it the line, from it on what lies behind it
-    at_next : i < c.count → {b : Bool} → lt_z t (point_at c i).temperature.0 ≡ b
-        → coefficient_of c t ≡ cond (not b) (behind (point_at c i) (drop (suc i) (points_of c)) t) (floor_f (line before (point_at c i) t))
+    at_next : i < c.count → {b : Bool} → le_z (point_at c i).temperature.0 t ≡ b
+        → coefficient_of c t ≡ cond b (behind (point_at c i) (drop (suc i) (points_of c)) t) (floor_f (line before (point_at c i) t))
     unfolding behind
     at_next h test =
         let q = point_at c i in
         r.same
         ∙ ap (λ l. behind before l t) (from_point i h)
-        ∙ ap (λ b. cond b (behind q (drop (suc i) (points_of c)) t) (floor_f (line before q t))) (le_z_is_not_lt_z t q.temperature.0 ∙ ap not test)
+        ∙ ap (λ b. cond b (behind q (drop (suc i) (points_of c)) t) (floor_f (line before q t))) test
 
     pub before_next : i < c.count → lt_z t (point_at c i).temperature.0 ≡ true → floor_f (line before (point_at c i) t) ≡ coefficient_of c t
-    before_next h test = sym (at_next h test)
+    before_next h test =
+        let before : le_z (point_at c i).temperature.0 t ≡ false = grind (arith, ints) in
+        sym (at_next h before)
 
     pub onward : i < c.count → lt_z t (point_at c i).temperature.0 ≡ false → Reached c t (point_at c i) (i + 1)
     onward h test =
         let last : i + 1 - 1 ≡ i = omega arith in
+        let reached : le_z (point_at c i).temperature.0 t ≡ true = grind (arith, ints) in
         record {
           some = omega arith;
           index = omega arith;
           is_point = rw last;
-          reached = le_z_is_not_lt_z t (point_at c i).temperature.0 ∙ ap not test;
-          same = rw (add-one i) (at_next h test);
+          reached = reached;
+          same = rw (add-one i) (at_next h reached);
         }
 
     pub past_last : c.count ≤ i → pos before.coefficient.0 ≡ coefficient_of c t
@@ -135,7 +106,7 @@ module _ (c : Coefficients) (fits : c.count ≤ length c.points) where
     past_last h = sym (r.same ∙ ap (λ l. behind before l t) (past_points i h))
 
 pub right_before : {c : Coefficients} {t : ℤ} {before : Point} {i : ℕ} → Usable c → Reached c t before i → point_right before ≡ true
-right_before {i} usable r = rw r.is_point (usable.points_right_lem (i - 1) (omega (arith, r.some, r.index)))
+right_before {i} usable r = rw r.is_point (usable.points_right (i - 1) (omega (arith, r.some, r.index)))
 
 -- A place that a temperature in range has reached holds a point.
 pub holds_point : (c : Coefficients) (t : ℤ) (i : ℕ) → Usable c → temperature_right t ≡ true → i < most_points → le_z (point_at c i).temperature.0 t ≡ true → i < c.count
@@ -146,4 +117,4 @@ holds_point c t i usable right place reached = by_place (dec_lt i c.count)
     by_place (no h) =
         let most = (both_hold (le_z (neg_ℤ (pos 2000)) t) (le_z t (pos 20000)) right).1 in
         let past : le_z (pos 20001) t ≡ true = sym (ap (λ (p : Point). le_z p.temperature.0 t) (usable.empty_behind i (omega arith) place)) ∙ reached in
-        absurd (omega (arith, order_of_test t (pos 20000) most, order_of_test (pos 20001) t past))
+        absurd (grind (arith, ints))

@@ -42,6 +42,6 @@ pub record Usable (c : Coefficients) : Type 0 where
   pub count_fits : c.count ≤ most_points
   pub places : length c.points ≡ most_points
   pub single_most : c.single.0 ≤ most_expansion
-  pub points_right_lem : (i : ℕ) → i < c.count → point_right (get_or c.points i no_place) ≡ true
+  pub points_right : (i : ℕ) → i < c.count → point_right (get_or c.points i no_place) ≡ true
   pub empty_behind : (i : ℕ) → c.count ≤ i → i < most_points → get_or c.points i no_place ≡ no_point
   pub rising : temperatures_rise (points_of c) ≡ true

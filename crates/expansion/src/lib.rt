@@ -21,9 +21,10 @@ pub struct Point {
 pub const MOST_POINTS: usize = 8;
 
 // The temperature of a place behind the last point (SPEC 3.9): no temperature in range reaches it.
-pub const NEVER_REACHED: i64 = ranges::MOST_TEMPERATURE + 1;
+pub const NEVER_REACHED: i64 = ranges::TEMPERATURE.most + 1;
 
 // What a sheet says of expansion (SPEC 3.9): `count` points, or where there is none the single number.
+// The places are an array, since there is no heap and a sheet is passed by value; those behind `count` hold no point.
 #[derive(Clone, Copy)]
 pub struct Coefficients {
     pub single: Expansion,
@@ -63,44 +64,34 @@ impl Coefficients {
         requires { self.count ≤ most_points }
         ensures { result ≡ temperatures_rise (points_of self) }
     {
-        let mut i = 1;
-        while i < self.count {
-            let before = self.points[i - 1];
-            let after = self.points[i];
-            if !before.temperature.below(after.temperature) {
-                return false;
-            }
-            i += 1;
-        }
-        true
+        let points = &self.points[..self.count];
+        points.is_sorted_by(|before, after| before.temperature < after.temperature)
     }
 
     // The coefficient at a temperature: beyond the ends the end's, else on the line between the two points around it. The walk stops before
-    // the first empty place, which no temperature reaches. Its bound is fixed, so that the compiler writes its turns out, each with its own
-    // place, and needn't copy the array.
+    // the first empty place, which no temperature reaches. It counts to a fixed bound, so that the compiler writes its turns out, each with
+    // its own place, and needn't copy the array.
     pub fn at(self, temperature: Tenths) -> Expansion
         requires { Usable self × (temperature_right temperature.0 ≡ true) }
         ensures result_value { pos result.0 ≡ coefficient_of self temperature.0 }
         ensures most { result.0 ≤ most_expansion }
     {
         let mut before = self.points[0];
-        if !before.temperature.below(temperature) {
+        if temperature <= before.temperature {
             if self.count == 0 {
                 return self.single;
             }
             return before.coefficient;
         }
-        let mut next = 1;
-        while next < MOST_POINTS {
+        for next in 1..MOST_POINTS {
             let after = self.points[next];
-            if temperature.below(after.temperature) {
+            if temperature < after.temperature {
                 if next < self.count {
                     return before.toward(after, temperature);
                 }
                 return before.coefficient;
             }
             before = after;
-            next += 1;
         }
         before.coefficient
     }

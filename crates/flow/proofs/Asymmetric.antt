@@ -6,7 +6,7 @@ use mathlib.Core.Logic.{◌↔◌}
 use native.Mathlib.Omega.{arith}
 use lib.IntN.{pos}
 use Rattle.fractions.specs.Fraction.{Frac, ◌≤F◌, ◌<F◌, ◌≈F◌, ◌+F◌, neg_f, ◌-F◌}
-use Rattle.fractions.proofs.Common.{is_own, is_whole, is_add, is_neg_lem, is_sub, is_le, is_lt, is_eq, at-common}
+use Rattle.fractions.proofs.Common.{is_own, is_whole, is_add, is_negated, is_sub, is_le, is_lt, is_eq, at-common}
 use Rattle.fractions.proofs.Comparison.{≤F-antisym, ≤F-trans, <F-not-≤F, ≤F-<F-trans, ≤F-of-<F, ≤F-of-≈F, ≤F-of-not-<F, ≈F-sym, ≈F-trans, ≈F-refl, le_f_true, le_f_false}
 use Rattle.fractions.proofs.Cases.{cond_cases}
 use Rattle.fractions.proofs.Arithmetic.{sub_same}
@@ -16,10 +16,10 @@ use Rattle.flow.specs.Solution.{AsymmetricExactNumbers, flowed, asymmetric}
 use Rattle.flow.proofs.OneSide.{more_strain_more_stress, accumulated_injective, grows_past_limit, limit_positive, rests, flows, flow_balances, on_side_same}
 
 pub negated_twice : (x : Frac) → x ≈F neg_f (neg_f x)
-negated_twice x = (is_eq (is_own x) (is_neg_lem (is_neg_lem (is_own x)))).1 (omega arith)
+negated_twice x = (is_eq (is_own x) (is_negated (is_negated (is_own x)))).1 (omega arith)
 
 negated_order : {x y : Frac} → neg_f x ≤F neg_f y → y ≤F x
-negated_order {x} {y} h = at-common (x ∷ y ∷ []) (λ d ((_, _, i), ((_, _, j), _)). (is_le j i).1 (omega (arith, (is_le (is_neg_lem i) (is_neg_lem j)).0 h)))
+negated_order {x} {y} h = at-common (x ∷ y ∷ []) (λ d ((_, _, i), ((_, _, j), _)). (is_le j i).1 (omega (arith, (is_le (is_negated i) (is_negated j)).0 h)))
 
 -- The two sides exchanged, and the signs with them.
 pub mirrored : {tension compression : Side} {trial A B stress A' B' : Frac} → Asymmetric tension compression trial A B stress A' B'
@@ -31,7 +31,7 @@ mirrored {tension} {compression} {trial} {A} {B} {stress} {A'} {B'} s =
       plastic =
           at-common (trial ∷ stress ∷ accumulated tension A ∷ accumulated tension A' ∷ accumulated compression B ∷ accumulated compression B' ∷ [])
           (λ d ((_, _, t), ((_, _, q), ((_, _, a), ((_, _, a'), ((_, _, b), ((_, _, b'), _)))))).
-          (is_eq (is_sub (is_neg_lem t) (is_neg_lem q)) (is_sub (is_sub b' b) (is_sub a' a))).1
+          (is_eq (is_sub (is_negated t) (is_negated q)) (is_sub (is_sub b' b) (is_sub a' a))).1
           (omega (arith, (is_eq (is_sub t q) (is_sub (is_sub a' a) (is_sub b' b))).0 s.plastic)));
     }
 
@@ -45,7 +45,7 @@ module _ {tension compression : Side} (curve : Hardens tension) (curve' : Harden
       omega (
         arith,
         (is_eq q r).0 (s.tension_holds.at_limit l),
-        (is_eq (is_neg_lem q) r').0 (s.compression_holds.at_limit l'),
+        (is_eq (is_negated q) r').0 (s.compression_holds.at_limit l'),
         (is_lt (is_whole (pos 0) q.some) r).0 (limit_positive curve s.tension_holds.past),
         (is_lt (is_whole (pos 0) q.some) r').0 (limit_positive curve' s.compression_holds.past),
       ))
@@ -122,7 +122,7 @@ module _ {tension compression : Side} (curve : Hardens tension) (curve' : Harden
             (is_eq (is_sub t i) (is_sub (is_sub a' a) (is_sub b' b))).0 s.plastic,
             (is_lt m t).0 l,
             (is_lt b b').0 g,
-            (is_eq (is_neg_lem i) m').0 (s.compression_holds.at_limit g),
+            (is_eq (is_negated i) m').0 (s.compression_holds.at_limit g),
             (is_le a' a).0 (≤F-of-not-<F (λ k. at_most_one s k g)),
             (is_lt (is_whole (pos 0) t.some) m).0 (limit_positive curve p),
             (is_lt (is_whole (pos 0) t.some) m').0 (limit_positive curve' s.compression_holds.past),
@@ -167,7 +167,7 @@ module _ {tension compression : Side} (curve : Hardens tension) (curve' : Harden
       below =
           at-common (tension.limit (flowed tension trial A) ∷ compression.limit B ∷ [])
           (λ d ((_, _, r), ((_, _, r'), _)).
-          (is_le (is_neg_lem r) r').1
+          (is_le (is_negated r) r').1
           (omega (
             arith,
             (is_lt (is_whole (pos 0) r.some) r).0 (limit_positive curve on.past),

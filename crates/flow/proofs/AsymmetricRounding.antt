@@ -7,7 +7,7 @@ use Prim.Native.Nat.{ℕ, suc}
 use native.Mathlib.Omega.{arith}
 use lib.IntN.{ℤ, pos, negsuc, neg_ℤ}
 use Rattle.fractions.specs.Fraction.{Frac, ◌≤F◌, ◌<F◌, whole}
-use Rattle.fractions.proofs.Common.{is_whole, is_neg_lem, is_lt, at-common}
+use Rattle.fractions.proofs.Common.{is_whole, is_negated, is_lt, at-common}
 use Rattle.fractions.proofs.Comparison.{≤F-antisym, ≈F-trans, ≤F-or-<F, ≈F-sym, whole_eq}
 use Rattle.fractions.proofs.Arithmetic.{neg_same, whole_neg}
 use Rattle.flow.specs.Side.{Side, accumulated, Hardens}
@@ -39,7 +39,7 @@ tension_rounded {tension} {compression} curve curve' floor A B m p p' {q} {A'} {
         (λ d ((_, _, t), ((_, _, r), _)).
         omega (
           arith,
-          (is_lt r (is_neg_lem (is_whole (pos m) t.some))).0 ((asymmetric_grows curve curve' p p' s).1.0 g),
+          (is_lt r (is_negated (is_whole (pos m) t.some))).0 ((asymmetric_grows curve curve' p p' s).1.0 g),
           (is_lt (is_whole (pos 0) t.some) r).0 (limit_positive curve' p'),
         ))
 

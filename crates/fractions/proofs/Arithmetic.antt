@@ -11,14 +11,14 @@ use lib.Signed.{◌≤ℤ◌, ◌<ℤ◌}
 use Rattle.fractions.specs.Fraction.{Frac, ◌≤F◌, ◌<F◌, ◌≈F◌, whole, ◌+F◌, neg_f, ◌-F◌, abs_f, signed, signed_f, times_f, Within}
 use Rattle.fractions.proofs.Comparison.{≈F-refl, ≤F-cases}
 use Rattle.fractions.proofs.UpDown.{up, dn, abs_parts, add_parts, sub-parts-ℤ, le_parts, lt_parts}
-use Rattle.fractions.proofs.Common.{Is, is_own, is_same, is_scale, is_whole, is_whole_one, is_add, is_neg_lem, is_sub, is_abs, is_signed_up, is_signed_dn, is_times, is_le, is_lt, is_eq, at-common}
+use Rattle.fractions.proofs.Common.{Is, is_own, is_same, is_scale, is_whole, is_whole_one, is_add, is_negated, is_sub, is_abs, is_signed_up, is_signed_dn, is_times, is_le, is_lt, is_eq, at-common}
 
 pub add_same : {w x y z : Frac} → w ≈F x → y ≈F z → (w +F y) ≈F (x +F z)
 add_same {w} {x} {y} {z} e f =
     at-common (w ∷ y ∷ []) (λ d ((_, _, i), ((_, _, j), _)). (is_eq (is_add i j) (is_add (is_same e i) (is_same f j))).1 refl)
 
 pub neg_same : {x y : Frac} → x ≈F y → neg_f x ≈F neg_f y
-neg_same {x} e = (is_eq (is_neg_lem (is_own x)) (is_neg_lem (is_same e (is_own x)))).1 refl
+neg_same {x} e = (is_eq (is_negated (is_own x)) (is_negated (is_same e (is_own x)))).1 refl
 
 pub sub_same : {w x y z : Frac} → w ≈F x → y ≈F z → (w -F y) ≈F (x -F z)
 sub_same {w} {x} {y} {z} e f =
@@ -184,7 +184,7 @@ within_neg {k} {x} {y} h =
     at-common (x ∷ y ∷ [])
     (λ d ((_, _, i), ((_, _, j), _)).
     let near = (is_within k i j).0 h in
-    (is_within k (is_neg_lem i) (is_neg_lem j)).1 (record { above = omega arith; below = omega arith }))
+    (is_within k (is_negated i) (is_negated j)).1 (record { above = omega arith; below = omega arith }))
 
 pub within_none : {x y : Frac} → x ≈F y → Within 0 x y
 within_none {x} {y} e =

@@ -69,14 +69,14 @@ is_add {x} {y} {p} {n} {q} {m} {d} i j =
         → u + (dy * da + dx * db) ≡ dy * ua + dx * ub + v → dx * dy * (p + q) + d * v ≡ dx * dy * (n + m) + d * u
     add_core dx dy d ua da ub db u v p n q m e f g = omega (arith, ap (λ (k : ℕ). dy * k) e, ap (λ (k : ℕ). dx * k) f, ap (λ (k : ℕ). d * k) g)
 
-pub is_neg_lem : {x : Frac} {p n d : ℕ} → Is x p n d → Is (neg_f x) n p d
+pub is_negated : {x : Frac} {p n d : ℕ} → Is x p n d → Is (neg_f x) n p d
 unfolding neg_f
-is_neg_lem {x} {p} {n} {d} i =
+is_negated {x} {p} {n} {d} i =
     record { some = i.some; same = rw ((neg_parts x.num).0, (neg_parts x.num).1) (sym i.same) }
 
 pub is_sub : {x y : Frac} {p n q m d : ℕ} → Is x p n d → Is y q m d → Is (x -F y) (p + m) (n + q) d
 unfolding ◌-F◌
-is_sub i j = is_add i (is_neg_lem j)
+is_sub i j = is_add i (is_negated j)
 
 pub is_times : {x : Frac} {p n d : ℕ} (t e : ℕ) (h : 0 < e) → Is x p n d → Is (times_f x t e h) (t * p) (t * n) (e * d)
 unfolding times_f

@@ -7,7 +7,7 @@ use native.Mathlib.Decide.{dec_le}
 use native.Mathlib.Omega.{arith}
 use lib.IntN.{pos}
 use Rattle.fractions.specs.Fraction.{Frac, ◌≤F◌, ◌<F◌, ◌≈F◌, whole, ◌+F◌, ◌-F◌, abs_f, signed_f, times_f, neg_f}
-use Rattle.fractions.proofs.Common.{Is, is_whole, is_add, is_sub, is_abs, is_signed_up, is_signed_dn, is_times, is_le, is_lt, is_eq, at-common, is_own, is_neg_lem}
+use Rattle.fractions.proofs.Common.{Is, is_whole, is_add, is_sub, is_abs, is_signed_up, is_signed_dn, is_times, is_le, is_lt, is_eq, at-common, is_own, is_negated}
 
 -- The magnitude with the sign put back.
 pub signed_abs : (x : Frac) → signed_f x (abs_f x) ≈F x
@@ -91,11 +91,11 @@ abs_above y x = at-common (y ∷ x ∷ []) (λ d ((_, _, i), ((p, n, j), _)). go
     go : (p n d u v : ℕ) → Is y u v d → Is x p n d → Dec (n ≤ p) → (y <F abs_f x) ↔ ((y <F x) ⊎ (y <F neg_f x))
     go p n d u v i j (yes h) = (
       λ l. inl ((is_lt i j).1 (omega (arith, (is_lt i (is_abs j)).0 l))),
-      ⊎_elim (λ l. (is_lt i (is_abs j)).1 (omega (arith, (is_lt i j).0 l))) (λ l. (is_lt i (is_abs j)).1 (omega (arith, (is_lt i (is_neg_lem j)).0 l))),
+      ⊎_elim (λ l. (is_lt i (is_abs j)).1 (omega (arith, (is_lt i j).0 l))) (λ l. (is_lt i (is_abs j)).1 (omega (arith, (is_lt i (is_negated j)).0 l))),
     )
     go p n d u v i j (no h) = (
-      λ l. inr ((is_lt i (is_neg_lem j)).1 (omega (arith, (is_lt i (is_abs j)).0 l))),
-      ⊎_elim (λ l. (is_lt i (is_abs j)).1 (omega (arith, (is_lt i j).0 l))) (λ l. (is_lt i (is_abs j)).1 (omega (arith, (is_lt i (is_neg_lem j)).0 l))),
+      λ l. inr ((is_lt i (is_negated j)).1 (omega (arith, (is_lt i (is_abs j)).0 l))),
+      ⊎_elim (λ l. (is_lt i (is_abs j)).1 (omega (arith, (is_lt i j).0 l))) (λ l. (is_lt i (is_abs j)).1 (omega (arith, (is_lt i (is_negated j)).0 l))),
     )
 
 -- A sign put before a number above nought is the sign of what comes out.
@@ -118,4 +118,4 @@ sign_cases s = at-common (s ∷ []) (λ d ((p, n, i), _). go p n d i (dec_le n p
         → ((whole (pos 0) ≤F s) × ((x : Frac) → signed_f s x ≈F x)) ⊎ ((s <F whole (pos 0)) × ((x : Frac) → signed_f s x ≈F neg_f x))
     go p n d i (yes h) = inl ((is_le (is_whole (pos 0) i.some) i).1 (omega arith), λ x. (is_eq (is_signed_up i h (is_own x)) (is_own x)).1 refl)
     go p n d i (no h) =
-        inr ((is_lt i (is_whole (pos 0) i.some)).1 (omega arith), λ x. (is_eq (is_signed_dn i (omega arith) (is_own x)) (is_neg_lem (is_own x))).1 refl)
+        inr ((is_lt i (is_whole (pos 0) i.some)).1 (omega arith), λ x. (is_eq (is_signed_dn i (omega arith) (is_own x)) (is_negated (is_own x))).1 refl)

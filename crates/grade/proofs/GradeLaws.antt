@@ -1,17 +1,20 @@
 -- Grading (SPEC 17.4, 17.5). The loop that compares rows: before each pair the first row outside the tolerance is known of the pairs so
 -- far, and so of the whole list where the loop ends. And the verdict, stage by stage.
 use Prim.Native.Nat.{ℕ, suc, ◌+◌, ◌^◌, ◌≤◌, ◌<◌}
-use mathlib.Core.Path.{◌≡◌, refl, sym, ap, ◌∙◌}
-use mathlib.Core.Bool.{Bool, true, false, not, ◌||◌, cond}
+use mathlib.Core.Path.{◌≡◌, refl, sym, ap, subst, ◌∙◌}
+use mathlib.Core.Bool.{Bool, true, false, false≢true, not, ◌||◌, cond}
 use mathlib.Core.List.{List, [], ◌∷◌, ◌++◌}
 use native.Mathlib.Nat.{add-zero}
 use native.Mathlib.Omega.{arith}
-use borrow.Author.Tests.{eq-eqb, ne_eqb}
+use borrow.Author.Tests.{eqb-true, eqb-false, eq-eqb, ne_eqb}
 use lib.IntN.{ℤ, pos, negsuc, nat_abs}
 use lib.Dec.{eqb}
 use lib.ListN.{length, length-map}
-use Rattle.refusals.specs.Table.{Answer, passes, refused, numbered, first_of}
-use Rattle.refusals.proofs.FirstLaws.{stops_first, goes_on, refused_anyhow, passes_anyhow, told_anyhow}
+use Rattle.std.specs.Prelude.{Result, Ok, Err, IsErr}
+use Rattle.refusals.specs.declared.Refused.{Refused}
+use Rattle.refusals.proofs.ReasonLaws.{reason_numbered}
+use Rattle.refusals.specs.Table.{passes, refused, first_of}
+use Rattle.refusals.proofs.FirstLaws.{stops_first, goes_on, refused_anyhow, passes_anyhow}
 use Rattle.bits.specs.Field.{Held}
 use Rattle.bits.specs.Layout.{offset, width_at}
 use Rattle.bits.proofs.LayoutLaws.{whole_of_field}
@@ -29,8 +32,10 @@ use Rattle.judge.specs.Standing.{Ready, ready_of, standing_refusals}
 use Rattle.judge.proofs.JudgeLaws.{standing_accepted}
 use Rattle.tie_rod.specs.Calls.{piece_at, count_in, pairs_in, place_of}
 use Rattle.tie_rod.proofs.WalkLaws.{Along, along_start, counted, along_next, walk_refused, place_refused, walk_last}
-use Rattle.grade.specs.Grades.{Grading, stress_at, agrees, first_outside, Verdict, verdict, grading_refusals, verdict_by, verdict_on, grade_of}
-use Rattle.grade.specs.Comparing.{outside_after, compared_of, settled}
+use Rattle.grade.specs.declared.Grade.{Grade}
+use Rattle.grade.specs.declared.Grade.TheVariants.{Accepted, Differs}
+use Rattle.grade.specs.Grades.{row_told, RowFromOne, CasesApart, Grading, stress_at, agrees, first_outside, Verdict, verdict, grading_refusals, verdict_by, verdict_on, grade_of}
+use Rattle.grade.specs.Comparing.{with_row, compared_of}
 
 -- A stress in a row is far from the ends of 64 bits.
 pub stress_small : (z : ℤ) → Held (width_at row_layout 3) z → nat_abs z < 2 ^ 62
@@ -40,6 +45,29 @@ stress_small (negsuc n) held = omega (arith, held)
 pub their_stress_small : (rows : List ℕ) (j : ℕ) → nat_abs (stress_at rows j) < 2 ^ 62
 their_stress_small rows j =
     stress_small (stress_at rows j) (whole_of_field (piece_at row_length j rows) (offset row_layout 3) (width_at row_layout 3) (omega arith)).1
+
+-- With row j compared too, the first outside stays what it was where there was one, or where row j agrees.
+abbrev outside_after : (first : ℕ) → (agree : Bool) → (j : ℕ) → ℕ
+outside_after first agree j = cond (agree || not (eqb first 0)) first (j + 1)
+
+row_after : (grade : Grade) (agree : Bool) (j : ℕ) → RowFromOne grade
+    → (row_told (with_row grade agree j) ≡ outside_after (row_told grade) agree j) × RowFromOne (with_row grade agree j)
+row_after Accepted true j from_one = (refl, tt)
+row_after Accepted false j from_one = (refl, λ z. omega (arith, z))
+row_after (Differs row) true j from_one = (refl, from_one)
+row_after (Differs row) false j from_one = (rw (ne_eqb row 0 from_one), from_one)
+
+-- No refusal has number 0.
+pub err_apart : (r : Result Grade Refused) → IsErr r → CasesApart r
+err_apart (Ok grade) e = absurd (false≢true e)
+err_apart (Err x) e = (reason_numbered x.reason).0
+
+-- What the pairs come to, by the number of their walk.
+pub ended_refused : (tolerance : ℤ) (theirs : List ℕ) (w : Walk) → (w.number ≡ 0 → ⊥) → compared_of tolerance theirs w ≡ verdict w.number (place_of w) 0
+ended_refused tolerance theirs w some = rw (ne_eqb w.number 0 some)
+
+pub ended_last : (tolerance : ℤ) (theirs : List ℕ) (w : Walk) → w.number ≡ 0 → compared_of tolerance theirs w ≡ verdict 0 0 (first_outside tolerance theirs 0 (rows_of w.advances))
+ended_last tolerance theirs w none = rw (eq-eqb w.number 0 none)
 
 module _ (tolerance : ℤ) (theirs : List ℕ) where
   abbrev near : (j : ℕ) → Row → Bool
@@ -72,43 +100,47 @@ module _ (tolerance : ℤ) (theirs : List ℕ) where
       by_row true onward = onward ∙ ap (λ (k : ℕ). outside_after (first_outside tolerance theirs (j + 1) ours) (near k row) k) later
       by_row false onward = stays (near (j + suc (length ours)) row)
 
-  pub record Graded (h : Sheet) (pairs : List ℕ) (r now : Rod) (first i : ℕ) : Type 0 where
+  pub record Graded (h : Sheet) (pairs : List ℕ) (r now : Rod) (grade : Grade) (i : ℕ) : Type 0 where
     pub along : Along h pairs r now i
-    pub first_is : first ≡ first_outside tolerance theirs 0 (rows_of along.advances)
+    pub first_is : row_told grade ≡ first_outside tolerance theirs 0 (rows_of along.advances)
+    pub from_one : RowFromOne grade
 
-  pub graded_start : (h : Sheet) (pairs : List ℕ) (r : Rod) → Graded h pairs r r 0 0
+  pub graded_start : (h : Sheet) (pairs : List ℕ) (r : Rod) → Graded h pairs r r Accepted 0
   unfolding along_start first_outside
-  graded_start h pairs r = record { along = along_start h pairs r; first_is = refl }
+  graded_start h pairs r = record { along = along_start h pairs r; first_is = refl; from_one = tt }
 
-  module _ {h : Sheet} {pairs : List ℕ} {r now : Rod} {first i : ℕ} (g : Graded h pairs r now first i) where
+  module _ {h : Sheet} {pairs : List ℕ} {r now : Rod} {grade : Grade} {i : ℕ} (g : Graded h pairs r now grade i) where
     abbrev ours : List Row
     ours = rows_of g.along.advances
 
     ours_counted : length ours ≡ i
     ours_counted = length-map g.along.advances (λ (a : Advance). a.row) ∙ counted g.along
 
-    pub graded_next : {a : Advance} {first' : ℕ} → i < count_in pairs → pair_answer h now (piece_at pair_length i pairs) ≡ passes a
-        → first' ≡ outside_after first (near i a.row) i → Graded h pairs r a.rod first' (i + 1)
+    pub graded_next : {a : Advance} {grade' : Grade} → i < count_in pairs → pair_answer h now (piece_at pair_length i pairs) ≡ passes a
+        → grade' ≡ with_row grade (near i a.row) i → Graded h pairs r a.rod grade' (i + 1)
     unfolding along_next
     graded_next {a} more e is =
         let at : 0 + length ours ≡ i = omega (arith, ours_counted) in
+        let after = row_after grade (near i a.row) i g.from_one in
         record {
           along = along_next g.along more e;
-          first_is = is ∙ ap (λ (f : ℕ). outside_after f (near i a.row) i) g.first_is
+          first_is = ap row_told is ∙ after.0 ∙ ap (λ (f : ℕ). outside_after f (near i a.row) i) g.first_is
               ∙ ap (λ (k : ℕ). outside_after (first_outside tolerance theirs 0 ours) (near k a.row) k) (sym at)
               ∙ sym (first_then 0 ours a.row) ∙ ap (first_outside tolerance theirs 0) (sym (rows_append g.along.advances (a ∷ [])));
+          from_one = subst RowFromOne (sym is) after.1;
         }
 
     -- The walk of the list has come to an end here: at a refused pair,
-    pub graded_refused : {n : ℕ} → i < count_in pairs → (n ≡ 0 → ⊥) → pair_answer h now (piece_at pair_length i pairs) ≡ refused n
-        → record { number = n; place = i + 1; first = first } ≡ compared_of tolerance theirs (walk h r (pairs_in pairs))
-    graded_refused {n} more some e =
-        (λ j. record { number = n; place = sym (place_refused g.along some) j; first = g.first_is j })
+    pub graded_refused : {n : ℕ} → i < count_in pairs → (pair_answer h now (piece_at pair_length i pairs) ≡ refused n) × (n ≡ 0 → ⊥)
+        → verdict n (i + 1) 0 ≡ compared_of tolerance theirs (walk h r (pairs_in pairs))
+    graded_refused {n} more (e, some) =
+        ap (λ (place : ℕ). verdict n place 0) (sym (place_refused g.along some))
+        ∙ sym (ended_refused tolerance theirs (record { advances = g.along.advances; number = n }) some)
         ∙ ap (compared_of tolerance theirs) (sym (walk_refused g.along more e))
 
     -- or behind the last.
-    pub graded_last : count_in pairs ≤ i → record { number = 0; place = 0; first = first } ≡ compared_of tolerance theirs (walk h r (pairs_in pairs))
-    graded_last all = (λ j. record { number = 0; place = 0; first = g.first_is j }) ∙ ap (compared_of tolerance theirs) (sym (walk_last g.along all))
+    pub graded_last : count_in pairs ≤ i → verdict 0 0 (row_told grade) ≡ compared_of tolerance theirs (walk h r (pairs_in pairs))
+    graded_last all = ap (verdict 0 0) g.first_is ∙ ap (compared_of tolerance theirs) (sym (walk_last g.along all))
 
 -- ---- The verdict, stage by stage
 
@@ -151,9 +183,24 @@ pub walked_last : (g : Grading) (w : Walk) → w.number ≡ 0
     → verdict_on g w ≡ verdict_by (first_of (grading_refusals g) (verdict 0 0 (first_outside g.tolerance g.rows 0 (rows_of w.advances))))
 walked_last g w none = rw (eq-eqb w.number 0 none)
 
--- What was compared, settled with the number that tells 16 and 17.
-pub settled_is : (g : Grading) (w : Walk) (own : ℕ) (d : ℤ) → numbered own d ≡ first_of (grading_refusals g) d
-    → settled (compared_of g.tolerance g.rows w) own ≡ verdict_on g w
-settled_is g w own d e =
-    ap (λ (x : Answer Verdict). cond (eqb w.number 0) (verdict_by x) (verdict w.number (place_of w) 0))
-    (told_anyhow own (grading_refusals g) d (verdict 0 0 (first_outside g.tolerance g.rows 0 (rows_of w.advances))) e)
+-- What was compared: number and place of a refused pair are the verdict,
+pub compared_refused : (g : Grading) (w : Walk) {n place : ℕ} → (n ≡ 0 → ⊥) → verdict n place 0 ≡ compared_of g.tolerance g.rows w → verdict n place 0 ≡ verdict_on g w
+compared_refused g w {n} {place} some e = by_number (eqb w.number 0) refl
+  where
+    by_number : (b : Bool) → eqb w.number 0 ≡ b → verdict n place 0 ≡ verdict_on g w
+    by_number true is = absurd (some (ap (λ (v : Verdict). v.number) (e ∙ ended_last g.tolerance g.rows w (eqb-true w.number 0 is))))
+    by_number false is =
+        let more = eqb-false w.number 0 is in
+        e ∙ ended_refused g.tolerance g.rows w more ∙ sym (walked_refused g w more)
+
+-- and where no pair is refused, 16 and 17 decide, and then the row.
+pub compared_last : (g : Grading) (w : Walk) {row : ℕ} → verdict 0 0 row ≡ compared_of g.tolerance g.rows w → verdict_by (first_of (grading_refusals g) (verdict 0 0 row)) ≡ verdict_on g w
+compared_last g w {row} e = by_number (eqb w.number 0) refl
+  where
+    by_number : (b : Bool) → eqb w.number 0 ≡ b → verdict_by (first_of (grading_refusals g) (verdict 0 0 row)) ≡ verdict_on g w
+    by_number true is =
+        let none = eqb-true w.number 0 is in
+        ap (λ (v : Verdict). verdict_by (first_of (grading_refusals g) v)) (e ∙ ended_last g.tolerance g.rows w none) ∙ sym (walked_last g w none)
+    by_number false is =
+        let more = eqb-false w.number 0 is in
+        absurd (more (sym (ap (λ (v : Verdict). v.number) (e ∙ ended_refused g.tolerance g.rows w more))))

@@ -8,7 +8,7 @@ use native.Mathlib.Omega.{arith}
 use lib.Dec.{eqb}
 use lib.ListN.{length}
 use Rattle.refusals.specs.Table.{Answer, passes, refused, first_of}
-use Rattle.refusals.proofs.FirstLaws.{AllNumbers, InUse, zero_in_use, Numbered, table_numbers, answer_number_lem, both_pass, passes_given, passes_anyhow}
+use Rattle.refusals.proofs.FirstLaws.{AllNumbers, InUse, zero_in_use, Numbered, table_numbers, number_stands, both_pass, passes_given, passes_anyhow}
 use Rattle.ranges.specs.Ranges.{most_pairs}
 use Rattle.pair.specs.Pairs.{pair_length, list_refusals}
 use Rattle.sheet.specs.Sheets.{sheet_of}
@@ -35,7 +35,7 @@ module _ (g : Grading) where
   by_table row = by_answer (first_of (grading_refusals g) (verdict 0 0 row)) refl
     where
       by_answer : (x : Answer Verdict) → first_of (grading_refusals g) (verdict 0 0 row) ≡ x → Small (verdict_by x)
-      by_answer (refused n) e = record { number = (answer_number_lem Numbered (grading_refusals g) (verdict 0 0 row) grading_numbers e).1; place = omega arith }
+      by_answer (refused n) e = record { number = (number_stands Numbered (grading_refusals g) (verdict 0 0 row) grading_numbers e).1; place = omega arith }
       by_answer (passes v) e = subst Small (passes_given (grading_refusals g) (verdict 0 0 row) e) (record { number = zero_in_use; place = omega arith })
 
   -- and one of the walk.
@@ -62,7 +62,7 @@ grade_small sheet state g = by_opening (first_of (opening_refusals sheet state g
     by_opening : (x : Answer Verdict) → first_of (opening_refusals sheet state g) told ≡ x → Small (verdict_by x)
     by_opening (refused n) e =
         record {
-          number = (answer_number_lem Numbered (opening_refusals sheet state g) told (opening_numbers sheet state (length g.pairs)) e).1;
+          number = (number_stands Numbered (opening_refusals sheet state g) told (opening_numbers sheet state (length g.pairs)) e).1;
           place = omega arith;
         }
     by_opening (passes v) e =

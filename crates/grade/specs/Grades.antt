@@ -1,8 +1,10 @@
 -- Grading another firm's table (SPEC 17): the verdict on their rows, cited by the contracts of this crate and of grade_c and by the
 -- demands; definitions only, for any bytes and any tolerance, nothing is assumed.
-use Rattle.std.specs.Prelude.{ℕ, ◌+◌, ◌*◌, ◌≡◌, Bool, not, cond, List, [], ◌∷◌, ◌++◌, ℤ, pos, nat_abs, ◌-ℤ◌, length, eqb}
+use Rattle.std.specs.Prelude.{ℕ, ◌+◌, ◌*◌, ◌≡◌, Bool, not, cond, List, [], ◌∷◌, ◌++◌, ℤ, pos, nat_abs, ◌-ℤ◌, length, eqb, Result, Ok, Err}
 use Rattle.std.specs.Int.Signed.{le_z}
 use Rattle.refusals.specs.Table.{Refusal, refusal, Answer, passes, refused, first_of}
+use Rattle.refusals.specs.Reasons.{number_of}
+use Rattle.refusals.specs.declared.Refused.{Refused}
 use Rattle.bits.specs.Field.{withinℤ}
 use Rattle.ranges.specs.Ranges.{most_tolerance}
 use Rattle.pair.specs.Pairs.{list_refusals}
@@ -55,17 +57,24 @@ pub record Verdict : Type 0 where
 abbrev pub verdict : (number place row : ℕ) → Verdict
 verdict number place row = record { number = number; place = place; row = row }
 
--- SPEC 8.8, 17.6: number, place and row for each case of the answer.
-abbrev pub grade_meaning : Grade → Verdict
-grade_meaning grades.Accepted = verdict 0 0 0
-grade_meaning (grades.Differs row) = verdict 0 0 row
-grade_meaning (grades.Refused number place) = verdict number place 0
+-- SPEC 17.6: the row that a grade names, 0 where there is none,
+abbrev pub row_told : Grade → ℕ
+row_told grades.Accepted = 0
+row_told (grades.Differs row) = row
+
+-- and SPEC 8.8: number, place and row of an answer.
+abbrev pub grade_meaning : Result Grade Refused → Verdict
+grade_meaning (Ok grade) = verdict 0 0 (row_told grade)
+grade_meaning (Err r) = verdict (number_of r.reason) r.place 0
 
 -- SPEC 17.6: the cases are apart: a row that differs is counted from 1, and no number is 0.
-abbrev pub CasesApart : Grade → Type 0
-CasesApart grades.Accepted = Unit {0}
-CasesApart (grades.Differs row) = row ≡ 0 → ⊥
-CasesApart (grades.Refused number place) = number ≡ 0 → ⊥
+abbrev pub RowFromOne : Grade → Type 0
+RowFromOne grades.Accepted = Unit {0}
+RowFromOne (grades.Differs row) = row ≡ 0 → ⊥
+
+abbrev pub CasesApart : Result Grade Refused → Type 0
+CasesApart (Ok grade) = RowFromOne grade
+CasesApart (Err r) = number_of r.reason ≡ 0 → ⊥
 
 -- SPEC 17.5: 16 turns away rows that aren't as many as the pairs, by their bytes; 17 a tolerance outside its range.
 unfoldable pub grading_refusals : Grading → List Refusal

@@ -2,16 +2,15 @@
 ghost use Rattle.std.specs.Prelude.{◌≡◌, ◌+◌, ◌^◌, ◌≤◌, ◌<◌, nat_abs};
 ghost use Rattle.ranges.specs.Ranges.{most_pairs};
 ghost use Rattle.carry.specs.Walk.{walk};
-ghost use Rattle.carry.specs.Reaching.{Stands};
 ghost use Rattle.tie_rod.specs.Calls.{count_in, pairs_in};
-ghost use Rattle.grade.specs.Grades.{agrees, stress_at};
-ghost use Rattle.grade.specs.Comparing.{compared_of, outside_after};
+ghost use Rattle.grade.specs.Grades.{CasesApart, agrees, grade_meaning, stress_at};
+ghost use Rattle.grade.specs.Comparing.{compared_of, with_row};
 
-use crate::Compared;
-use carry::{Reached, Tried};
+use crate::Grade;
+use carry::standing::Standing;
+use refusals::Refused;
 use row::Row;
-use sheet::Sheet;
-use units::Grain;
+use units::{Grain, Quantity};
 
 // Whether a stress of theirs lies within the tolerance of ours.
 fn agrees(theirs: Grain, ours: Grain, tolerance: Grain) -> bool
@@ -19,61 +18,48 @@ fn agrees(theirs: Grain, ours: Grain, tolerance: Grain) -> bool
     ensures { result ≡ agrees tolerance.0 theirs.0 ours.0 }
 {
     let difference = theirs.minus(ours);
-    let size = difference.magnitude();
-    let far = Grain::of(false, size);
-    far.at_most(tolerance)
+    let far = Grain::of(false, difference.magnitude());
+    far <= tolerance
 }
 
-// The first row outside the tolerance, 0 for none: it stays what it was before row i, unless that row is the first.
-fn first_outside(first: usize, ours: Grain, rows: &[u8], i: usize, tolerance: Grain) -> usize
+// The grade with the row that comes after i others compared too: it names that row only if it is the first outside the tolerance.
+fn graded(grade: Grade, ours: Grain, rows: &[u8], i: usize, tolerance: Grain) -> Grade
     requires { (i < 2 ^ 52) × (nat_abs ours.0 < 2 ^ 62) }
-    ensures { result ≡ outside_after first (agrees tolerance.0 (stress_at rows.now i) ours.0) i }
+    ensures { result ≡ with_row grade (agrees tolerance.0 (stress_at rows.now i) ours.0) i }
 {
     let theirs = Row::stress_at(rows, i);
     let near = agrees(theirs, ours, tolerance);
-    if near || first != 0 {
-        return first;
+    match grade {
+        Grade::Accepted if !near => Grade::Differs(i + 1),
+        _ => grade,
     }
-    i + 1
 }
 
-// Carries the rod over a list, and compares each row with theirs as it is made.
+// Carries the rod over a list, and compares each row with theirs as it is made. A loop beside that of tie_rod's walk: one for both, over a
+// trait, would be no plainer, since it needs a struct around the lent buffer and a law of what each row does to it.
 pub(crate) fn compare(
-    sheet: Sheet,
-    start: Reached,
+    start: Standing,
     pairs: &[u8],
     rows: &[u8],
     tolerance: Grain,
-) -> Compared
-    requires { Stands sheet start × (count_in pairs.now ≤ most_pairs) }
-    ensures { result ≡ compared_of tolerance.0 rows.now (walk sheet start.rod (pairs_in pairs.now)) }
+) -> Result<Grade, Refused>
+    requires { count_in pairs.now ≤ most_pairs }
+    ensures told { grade_meaning result ≡ compared_of tolerance.0 rows.now (walk start.entry.material.now.sheet start.entry.reached.rod (pairs_in pairs.now)) }
+    ensures apart { CasesApart result }
 {
     let count = pairs.len() / pair::PAIR_LENGTH;
-    let mut reached = start;
-    let mut first = 0;
-    let mut i = 0;
-    while i < count {
-        match reached.trial_at(sheet, pairs, i) {
-            Tried::Accepted(carried) => {
-                let row = carried.row;
-                let ours = row.stress;
-                first = first_outside(first, ours, rows, i, tolerance);
-                reached = carried.keep();
-            }
-            Tried::Refused(number) => {
+    let mut standing = start;
+    let mut grade = Grade::Accepted;
+    for i in 0..count {
+        let carried = match standing.trial_at(pairs, i) {
+            Ok(carried) => carried,
+            Err(reason) => {
                 let place = i + 1;
-                return Compared {
-                    number: number,
-                    place: place,
-                    first: first,
-                };
+                return Err(Refused { reason, place });
             }
-        }
-        i += 1;
+        };
+        grade = graded(grade, carried.row.stress, rows, i, tolerance);
+        standing = carried.keep();
     }
-    Compared {
-        number: 0,
-        place: 0,
-        first: first,
-    }
+    Ok(grade)
 }

@@ -2,22 +2,28 @@
 // is made, and none is stored.
 #![tactic(auto)]
 
+ghost use Rattle.std.specs.Prelude.{◌≡◌};
+ghost use Rattle.grade.specs.Grades.{row_told};
+
 mod compare; // compare.rt: their rows beside ours, pair by pair
 pub mod entry; // entry.rt: the entry
 
-// What a grading answers: accepted, the first row that isn't within the tolerance, or refused with number and place.
-#[derive(Clone, Copy)]
+// What a grading that isn't refused answers: all rows are within the tolerance, or the first, counted from 1, that isn't. No Option, in which
+// None would have to be read as the good verdict.
+#[derive(Clone, Copy, PartialEq, Eq)]
 pub enum Grade {
     Accepted,
     Differs(usize),
-    Refused(u64, usize),
 }
 
-// What the pairs of a list come to beside their rows: number and place of a refused pair, and the first row outside the tolerance, 0 for
-// none.
-#[derive(Clone, Copy)]
-pub struct Compared {
-    pub number: u64,
-    pub place: usize,
-    pub first: usize,
+impl Grade {
+    // The first row that isn't within the tolerance, 0 where there is none (SPEC 17.6).
+    pub fn row(self) -> usize
+        ensures { result ≡ row_told self }
+    {
+        match self {
+            Grade::Accepted => 0,
+            Grade::Differs(row) => row,
+        }
+    }
 }

@@ -2,22 +2,9 @@
 // runs it would make them slower (DECISIONS.md, Speed).
 #![tactic(auto)]
 
-ghost use Rattle.std.specs.Prelude.{◌≡◌, ◌≤◌, ◌<◌};
-ghost use Rattle.refusals.specs.Table.{in_one_number};
-ghost use Rattle.ranges.specs.Ranges.{most_pairs};
-ghost use Rattle.grade.specs.Grades.{grade_meaning, grade_of, grading};
+ghost use Rattle.std.specs.Prelude.{◌≡◌};
+ghost use Rattle.grade.specs.Grades.{grade_of, grading};
 ghost use Rattle.grade_c.specs.Answers.{grade_seen, grade_seen_of};
-
-use grade::Grade;
-
-// Number and place as one number.
-fn pack(grade: Grade) -> u64
-    requires { ((grade_meaning grade).number < 256) × ((grade_meaning grade).place ≤ most_pairs) }
-    ensures { result ≡ in_one_number (grade_meaning grade).number (grade_meaning grade).place }
-{
-    let place = grade.place() as u64;
-    grade.number() + 256 * place
-}
 
 // Grades another firm's table (SPEC 17).
 #[unsafe(no_mangle)]
@@ -31,7 +18,14 @@ pub extern "C" fn tie_rod_grade(
 ) -> u64
     ensures { grade_seen result row.new ≡ grade_seen_of (grade_of sheet.now state.now (grading pairs.now rows.now tolerance)) }
 {
-    let grade = grade::entry::grade(sheet, state, pairs, rows, tolerance);
-    *row = grade.row() as u64;
-    pack(grade)
+    match grade::entry::grade(sheet, state, pairs, rows, tolerance) {
+        Ok(grade) => {
+            *row = grade.row() as u64;
+            0
+        }
+        Err(refused) => {
+            *row = 0;
+            refused.in_one_number()
+        }
+    }
 }

@@ -1,14 +1,16 @@
 -- A sheet and a state judged together: refusals 1 to 6 and 13, the first stage of a call (SPEC 8.6, 8.9), cited by calls, gradings, logs
 -- and the demands; definitions only, for any bytes, nothing is assumed.
-use Rattle.std.specs.Prelude.{ℕ, List, ◌++◌}
-use Rattle.refusals.specs.Table.{Refusal, Answer, numbered}
+use Rattle.std.specs.Prelude.{ℕ, List, ◌++◌, Result}
+use Rattle.refusals.specs.Table.{Refusal, Answer}
+use Rattle.refusals.specs.declared.Reason.{Reason}
+use Rattle.refusals.specs.Reasons.{answer_by}
 use Rattle.sheet.specs.declared.Sheet.{Sheet}
 use Rattle.sheet.specs.Sheets.{sheet_refusals, sheet_of}
 use Rattle.rod.specs.declared.Rod.{Rod}
 use Rattle.state.specs.States.{state_refusals, state_of}
 use Rattle.rod.specs.Against.{against_refusals}
-use Rattle.judge.specs.declared.Judged.{Judged}
-use Rattle.judge.specs.declared.Standing.{Standing}
+use Rattle.carry.specs.declared.standing.Standing.{Standing}
+use Rattle.judge.specs.declared.judged.Judged.{Judged}
 
 -- SPEC 8.9: a sheet and a rod that passed.
 pub record Ready : Type 0 where
@@ -28,9 +30,9 @@ unfoldable pub standing_refusals : (sheet state : List ℕ) → List Refusal
 standing_refusals sheet state = sheet_refusals sheet ++ holder_refusals (sheet_of sheet) state
 
 -- SPEC 8.8: what judging a state answers: the number, or the sheet and the rod that passed,
-abbrev pub judged_meaning : Sheet → Judged → Answer Ready
-judged_meaning h j = numbered j.number (record { sheet = h; rod = j.reached.rod })
+abbrev pub standing_meaning : Result Standing Reason → Answer Ready
+standing_meaning result = answer_by (λ (s : Standing). record { sheet = s.material.now.sheet; rod = s.reached.rod }) result
 
 -- and what judging a sheet and a state together does.
-abbrev pub standing_meaning : Standing → Answer Ready
-standing_meaning s = numbered s.number (record { sheet = s.sheet; rod = s.reached.rod })
+abbrev pub judged_meaning : Result Judged Reason → Answer Ready
+judged_meaning result = answer_by (λ (j : Judged). record { sheet = j.material.sheet; rod = j.reached.rod }) result

@@ -4,7 +4,7 @@
 ghost use Rattle.std.specs.Prelude.{◌≡◌, ◌<◌};
 ghost use Rattle.law.specs.Laws.{first_is_abscissa, has_second, law_of, number_of};
 
-#[derive(Clone, Copy)]
+#[derive(Clone, Copy, PartialEq, Eq)]
 pub enum Law {
     IsotropicLine,
     IsotropicCurve,
@@ -12,32 +12,26 @@ pub enum Law {
     Asymmetric,
 }
 
+impl From<Law> for u64 {
+    ghost from_gives = { λ law number. number ≡ number_of law };
+
+    fn from(law: Law) -> u64 {
+        law as u64
+    }
+}
+
 impl Law {
+    // Not a `TryFrom`: two bits name a law whatever they are, so that nothing is refused.
     #[tactic(auto, unfolding(crate::specs::Laws::law_of))]
     pub fn of(number: u64) -> Law
         requires { number < 4 }
         ensures { result ≡ law_of number }
     {
-        if number == 0 {
-            return Law::IsotropicLine;
-        }
-        if number == 1 {
-            return Law::IsotropicCurve;
-        }
-        if number == 2 {
-            return Law::Kinematic;
-        }
-        Law::Asymmetric
-    }
-
-    pub fn number(self) -> u64
-        ensures { result ≡ number_of self }
-    {
-        match self {
-            Law::IsotropicLine => 0,
-            Law::IsotropicCurve => 1,
-            Law::Kinematic => 2,
-            Law::Asymmetric => 3,
+        match number {
+            0 => Law::IsotropicLine,
+            1 => Law::IsotropicCurve,
+            2 => Law::Kinematic,
+            _ => Law::Asymmetric,
         }
     }
 
@@ -45,23 +39,13 @@ impl Law {
     pub fn first_is_abscissa(self) -> bool
         ensures { result ≡ first_is_abscissa self }
     {
-        match self {
-            Law::IsotropicLine => true,
-            Law::IsotropicCurve => true,
-            Law::Kinematic => false,
-            Law::Asymmetric => true,
-        }
+        self != Law::Kinematic
     }
 
     // Whether the law has a second variable, the compression abscissa.
     pub fn has_second(self) -> bool
         ensures { result ≡ has_second self }
     {
-        match self {
-            Law::IsotropicLine => false,
-            Law::IsotropicCurve => false,
-            Law::Kinematic => false,
-            Law::Asymmetric => true,
-        }
+        self == Law::Asymmetric
     }
 }

@@ -18,14 +18,6 @@ same_refused m n e = cc
 pub same_passes : {A : Type 0} (x y : A) → passes x ≡ passes y → x ≡ y
 same_passes x y e = cc
 
--- What a number says.
-module _ {A : Type 0} (n : ℕ) (value : A) {answer : Answer A} (is : numbered n value ≡ answer) where
-  pub number_refused : (n ≡ 0 → ⊥) → answer ≡ refused n
-  number_refused ne = sym is ∙ rw (ne_eqb n 0 ne)
-
-  pub number_passes : n ≡ 0 → answer ≡ passes value
-  number_passes e = sym is ∙ rw (eq-eqb n 0 e)
-
 -- Where a value passes, no line of the table applies, and the value is the one given.
 pub passes_line : {A : Type 0} (n : ℕ) (t : Bool) (rest : List Refusal) (v : A) {x : A} → first_of (refusal n t ∷ rest) v ≡ passes x
     → (t ≡ false) × (first_of rest v ≡ passes x)
@@ -62,10 +54,10 @@ zero_in_use = (omega arith, λ z. omega (arith, z))
 abbrev pub Numbered : ℕ → Type 0
 Numbered n = (n ≡ 0 → ⊥) × InUse n
 
-pub answer_number_lem : {A : Type 0} (P : ℕ → Type 0) (table : List Refusal) (v : A) {n : ℕ} → AllNumbers P table → first_of table v ≡ refused n → P n
+pub number_stands : {A : Type 0} (P : ℕ → Type 0) (table : List Refusal) (v : A) {n : ℕ} → AllNumbers P table → first_of table v ≡ refused n → P n
 unfolding first_of
-answer_number_lem P [] v {n} all e = absurd (refused_is_not_passes n v (sym e))
-answer_number_lem P (r ∷ rest) v {n} (right, all) e = by_line r.applies e (answer_number_lem P rest v all)
+number_stands P [] v {n} all e = absurd (refused_is_not_passes n v (sym e))
+number_stands P (r ∷ rest) v {n} (right, all) e = by_line r.applies e (number_stands P rest v all)
   where
     by_line : (t : Bool) → cond t (refused r.number) (first_of rest v) ≡ refused n → (first_of rest v ≡ refused n → P n) → P n
     by_line true e onward = let same : r.number ≡ n = same_refused r.number n e in rw same at right
@@ -102,7 +94,7 @@ table_numbers (r ∷ rest) e =
 
 -- So is the number that it gives.
 pub number_given : {A : Type 0} (table : List Refusal) (v : A) {n : ℕ} → all_numbered (numbers_of table) ≡ true → first_of table v ≡ refused n → Numbered n
-number_given table v all e = answer_number_lem Numbered table v (table_numbers table all) e
+number_given table v all e = number_stands Numbered table v (table_numbers table all) e
 
 -- Neither of two tests holds where their disjunction doesn't.
 pub neither_holds : (a b : Bool) → a || b ≡ false → (a ≡ false) × (b ≡ false)
@@ -150,14 +142,6 @@ refused_anyhow table v w n e = ap (λ (t : List Refusal). first_of t w) (sym (ap
 pub passes_anyhow : {A B : Type 0} (table : List Refusal) (v : A) (w : B) {x : A} → first_of table v ≡ passes x → first_of table w ≡ passes w
 unfolding first_of
 passes_anyhow table v w e = ap (λ (t : List Refusal). first_of t w) (sym (append-nil table)) ∙ goes_on table [] v w e
-
--- A number that tells a table's answer tells it beside any value.
-pub told_anyhow : {A B : Type 0} (n : ℕ) (table : List Refusal) (v : A) (w : B) → numbered n v ≡ first_of table v → numbered n w ≡ first_of table w
-told_anyhow n table v w e = by_number (eqb n 0) refl
-  where
-    by_number : (b : Bool) → eqb n 0 ≡ b → cond b (passes w) (refused n) ≡ first_of table w
-    by_number true is = sym (passes_anyhow table v w (sym e ∙ ap (λ (t : Bool). cond t (passes v) (refused n)) is))
-    by_number false is = sym (refused_anyhow table v w n (sym e ∙ ap (λ (t : Bool). cond t (passes v) (refused n)) is))
 
 -- ---- Answer and table say the same
 

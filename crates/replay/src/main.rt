@@ -15,7 +15,7 @@ fn replay_next<R: Read>(rt: &impl Print, input: &mut R) -> Result<bool> {
     if got < 2 {
         return Ok(false);
     }
-    let length = bits::read(&head, 0, 16) as usize;
+    let length = usize::from(u16::from_be_bytes(head));
     let count = print::read_full(input, &mut space[0..length])?;
     print::print_text(rt, &space[0..count])?;
     Ok(true)
@@ -23,12 +23,10 @@ fn replay_next<R: Read>(rt: &impl Print, input: &mut R) -> Result<bool> {
 
 fn main(rt: HostRuntime) -> Result<()> {
     let mut input = rt.reader();
-    let mut i = 0;
-    while i < MOST_LOGS {
+    for _ in 0..MOST_LOGS {
         if !replay_next(&rt, &mut input)? {
             return Ok(());
         }
-        i += 1;
     }
     Ok(())
 }

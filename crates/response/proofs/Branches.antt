@@ -1,10 +1,11 @@
 -- How the sign and the magnitude of a trial make a law's answer: laws over the definitions, for the proofs of the functions.
 use Prim.Native.Nat.{ℕ, ◌+◌, ◌-◌, ◌*◌, ◌/◌, ◌≤◌, ◌<◌}
-use mathlib.Core.Path.{◌≡◌, refl, sym, ap}
+use mathlib.Core.Path.{◌≡◌, refl}
 use mathlib.Core.Bool.{Bool, true, false, true≢false, cond}
 use lib.IntN.{ℤ, pos, negsuc, nat_abs, ◌+ℤ◌, ◌-ℤ◌}
-use borrow.Author.Tests.{le-leb, lt-leb, ltb-true, ltb-false}
-use lib.Dec.{ltb}
+use Rattle.std.proofs.Common.{rules}
+use Rattle.std.specs.Prelude.{Some, None}
+use borrow.Author.Tests.{le-leb, lt-leb}
 use Rattle.branch.specs.declared.Branch.TheVariants as branches
 use Rattle.fractions.specs.Fraction.{signed}
 use Rattle.units.specs.declared.Magnitude.{Magnitude}
@@ -17,8 +18,6 @@ use Rattle.curve.specs.Sides.{curve_of}
 use Rattle.flow.specs.Stored.{side_stored, isotropic_stored, kinematic_stored}
 use Rattle.response.specs.declared.Flowed.{Flowed}
 use Rattle.response.specs.declared.Motion.TheVariants as motions
-use Rattle.response.specs.declared.SideFlow.{SideFlow}
-use Rattle.response.specs.declared.SideFlow.TheVariants.{Still, Grown}
 use Rattle.response.specs.Response.{isotropic_moved, kinematic_moved, moved_meaning}
 use Rattle.response.specs.SideFlows.{flow_at, flow_toward, side_flow}
 
@@ -42,31 +41,13 @@ unfolding moved_meaning
 flow_meaning E variable trial true f = refl
 flow_meaning E variable trial false f = refl
 
--- Whether a side moved, and where to, as its answer tells.
-abbrev has_moved : SideFlow → Bool
-has_moved Still = false
-has_moved (Grown a) = true
+-- Where a side has no new abscissa the trial is within the limit, and where it has one it is past it.
+pub side_still : (abscissa limit trial : ℕ) → side_flow abscissa limit trial ≡ None → trial ≤ limit
+side_still abscissa limit trial e = search rules
 
-abbrev moved_to : SideFlow → Magnitude
-moved_to Still = magnitude 0
-moved_to (Grown a) = a
-
-told_still : (t : Bool) (a : Magnitude) → cond t (Grown a) Still ≡ Still → t ≡ false
-told_still true a e = ap has_moved e
-told_still false a e = refl
-
-told_moved : (t : Bool) (a : Magnitude) {b : Magnitude} → cond t (Grown a) Still ≡ Grown b → (t ≡ true) × (a ≡ b)
-told_moved true a e = (refl, ap moved_to e)
-told_moved false a e = absurd (true≢false (sym (ap has_moved e)))
-
-pub side_still : (abscissa limit trial : ℕ) → side_flow abscissa limit trial ≡ Still → trial ≤ limit
-side_still abscissa limit trial e = ltb-false limit trial (told_still (ltb limit trial) (magnitude (abscissa + (trial - limit))) e)
-
-pub side_moved : (abscissa limit trial : ℕ) {a : Magnitude} → side_flow abscissa limit trial ≡ Grown a
+pub side_moved : (abscissa limit trial : ℕ) {a : Magnitude} → side_flow abscissa limit trial ≡ Some a
     → (limit < trial) × (magnitude (abscissa + (trial - limit)) ≡ a)
-side_moved abscissa limit trial e =
-    let told = told_moved (ltb limit trial) (magnitude (abscissa + (trial - limit))) e in
-    (ltb-true limit trial told.0, told.1)
+side_moved abscissa limit trial e = search rules
 
 -- Within its limit the isotropic law leaves all as it was; past it the abscissa grows by the excess, and the stress lies at the limit there.
 module _ (side : Side) (e : Modulus) (abscissa trial : ℤ) where

@@ -6,7 +6,7 @@ use mathlib.Core.Logic.{inl, inr, ⊎_elim, ◌↔◌}
 use native.Mathlib.Omega.{arith}
 use lib.IntN.{pos}
 use Rattle.fractions.specs.Fraction.{Frac, ◌≤F◌, ◌<F◌, ◌≈F◌, whole, neg_f, ◌-F◌, signed_f}
-use Rattle.fractions.proofs.Common.{is_whole, is_neg_lem, is_sub, is_le, is_lt, is_eq, at-common}
+use Rattle.fractions.proofs.Common.{is_whole, is_negated, is_sub, is_le, is_lt, is_eq, at-common}
 use Rattle.fractions.proofs.Comparison.{<F-≤F-trans, ≤F-of-<F, ≤F-of-not-<F, ≤F-of-≈F, ≤F-trans, ≈F-refl, ≈F-sym, ≈F-trans}
 use Rattle.fractions.proofs.Arithmetic.{signed_same, difference_positive}
 use Rattle.fractions.proofs.Signs.{sign_cases}
@@ -58,7 +58,7 @@ module _ {R u : Frac} (high : whole (pos 0) <F R) where
 
   pub below_nought : R <F neg_f u → u <F whole (pos 0)
   below_nought l = at-common (R ∷ u ∷ []) (λ k ((_, _, r), ((_, _, i), _)).
-      let nought = is_whole (pos 0) r.some in (is_lt i nought).1 (omega (arith, (is_lt nought r).0 high, (is_lt r (is_neg_lem i)).0 l)))
+      let nought = is_whole (pos 0) r.some in (is_lt i nought).1 (omega (arith, (is_lt nought r).0 high, (is_lt r (is_negated i)).0 l)))
 
 -- A branch by the limits that a trial passes, and the way that something goes by them.
 pub by_limits : (d : Frac) {T C G : Type 0} (b : Branch) → (b ≡ Tension) ↔ T → (b ≡ Compression) ↔ C → (yielded_by b ≡ true) ↔ G
@@ -82,7 +82,7 @@ module _ (u v : Frac) {w g d : Frac} (more : whole (pos 0) ≤F w) (agree : (u -
       let nought = is_whole (pos 0) i.some in
       omega (
         arith,
-        (is_eq (is_sub i j) (is_neg_lem m)).0 (≈F-trans agree (negated w)),
+        (is_eq (is_sub i j) (is_negated m)).0 (≈F-trans agree (negated w)),
         (is_le nought m).0 more,
         (is_lt j nought).0 down,
         (is_lt nought r).0 high,
@@ -103,12 +103,12 @@ module _ (u v : Frac) {w g d : Frac} (more : whole (pos 0) ≤F w) (agree : (u -
         (is_le nought m).0 more,
         (is_le nought j).0 up,
         (is_lt nought r).0 high,
-        (is_lt r (is_neg_lem i)).0 l,
+        (is_lt r (is_negated i)).0 l,
       ))))
       (λ (down, negated). at-common (d ∷ g ∷ [])
       (λ k ((_, _, i), ((_, _, j), _)).
       let nought = is_whole (pos 0) i.some in
-      (is_lt i nought).1 (omega (arith, (is_eq i (is_neg_lem j)).0 (≈F-trans goes (negated g)), (is_lt nought j).0 grown))))
+      (is_lt i nought).1 (omega (arith, (is_eq i (is_negated j)).0 (≈F-trans goes (negated g)), (is_lt nought j).0 grown))))
       (sign_cases v)
 
   pub stays_without : whole (pos 0) ≤F g → ¬ (whole (pos 0) <F g) → d ≈F whole (pos 0)
@@ -119,7 +119,7 @@ module _ (u v : Frac) {w g d : Frac} (more : whole (pos 0) ≤F w) (agree : (u -
       let flat : g ≤F whole (pos 0) = ≤F-of-not-<F none in
       ⊎_elim
       (λ (up, same). (is_eq i nought).1 (omega (arith, (is_eq i j).0 (≈F-trans goes (same g)), (is_le nought j).0 least, (is_le j nought).0 flat)))
-      (λ (down, negated). (is_eq i nought).1 (omega (arith, (is_eq i (is_neg_lem j)).0 (≈F-trans goes (negated g)), (is_le nought j).0 least, (is_le j nought).0 flat)))
+      (λ (down, negated). (is_eq i nought).1 (omega (arith, (is_eq i (is_negated j)).0 (≈F-trans goes (negated g)), (is_le nought j).0 least, (is_le j nought).0 flat)))
       (sign_cases v))
 
 -- Law 3: plastic strain changes by a, what p grew by in tension, less b, what it grew by in compression, and not both grew.

@@ -69,11 +69,11 @@ asymmetric_tangents E tension compression A B (negsuc m) h h' = (
   tangent_of_segment E compression (pos B) (negsuc m) h' Compression refl,
 )
 
-pub past_yield_lem : {yield A : ℕ} → yield ≤ A → whole (pos yield) ≤F whole (pos A)
-past_yield_lem {yield} {A} h = (is_le (is_whole_one (pos yield)) (is_whole_one (pos A))).1 (omega arith)
+pub yield_within : {yield A : ℕ} → yield ≤ A → whole (pos yield) ≤F whole (pos A)
+yield_within {yield} {A} h = (is_le (is_whole_one (pos yield)) (is_whole_one (pos A))).1 (omega arith)
 
 past_whole : (yield : ℕ) (z : ℤ) → PastYield yield z → whole (pos yield) ≤F whole z
-past_whole yield (pos A) h = past_yield_lem h.past
+past_whole yield (pos A) h = yield_within h.past
 past_whole yield (negsuc n) h = absurd (true≢false h.not_negative)
 
 module _ (h : Sheet) (sound : SheetSound h) where
@@ -100,9 +100,9 @@ module _ (h : Sheet) (sound : SheetSound h) where
   isotropic_left trial A second past =
       let curve = curve_of h.tension in
       let hardens = tension_hardens h sound in
-      let high = limit_positive hardens (past_yield_lem past) in (
+      let high = limit_positive hardens (yield_within past) in (
         λ x (m, g, e).
-            let (rounded, yields) = isotropic_rounded hardens (curve_rounded sound.modulus_least curve) A (past_yield_lem past) trial m in
+            let (rounded, yields) = isotropic_rounded hardens (curve_rounded sound.modulus_least curve) A (yield_within past) trial m in
             ((rounded, refl), Iff.trans yields (difference_positive g)),
         branch_passes high high trial (≈F-refl (whole trial)) (isotropic_stored (limit_at E curve) trial A).yielded,
         branch_marks (isotropic_stored (limit_at E curve) trial A).yielded trial,
@@ -137,8 +137,8 @@ module _ (h : Sheet) (sound : SheetSound h) where
       let compression = curve_of h.compression in
       let hardens = tension_hardens h sound in
       let hardens' = compression_hardens h sound is in
-      let p = past_yield_lem past in
-      let p' = past_yield_lem past' in
+      let p = yield_within past in
+      let p' = yield_within past' in
       let same = asymmetric_as_stored E tension compression A B trial in
       let (still, up, down) = asymmetric_tangents E tension compression A B trial past past' in (
         λ x (m, g).

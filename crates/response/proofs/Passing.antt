@@ -7,7 +7,7 @@ use mathlib.Core.Logic.{◌⊎◌, inl, inr, ⊎_elim, ◌↔◌}
 use native.Mathlib.Omega.{arith}
 use lib.IntN.{ℤ, pos, negsuc}
 use Rattle.fractions.specs.Fraction.{Frac, ◌<F◌, ◌≈F◌, whole, neg_f}
-use Rattle.fractions.proofs.Common.{is_whole, is_neg_lem, is_lt, is_eq, at-common}
+use Rattle.fractions.proofs.Common.{is_whole, is_negated, is_lt, is_eq, at-common}
 use Rattle.branch.specs.declared.Branch.TheVariants.{Tension, Compression}
 use Rattle.branch.specs.Branches.{branch_number}
 use Rattle.response.specs.Response.{flow_branch}
@@ -24,7 +24,7 @@ module _ {R u : Frac} (high : whole (pos 0) <F R) where
   not_above_negated n e l =
       at-common (R ∷ u ∷ [])
       (λ d ((_, _, r), ((_, _, i), _)).
-      omega (arith, (is_lt r (is_neg_lem i)).0 l, (is_eq i (is_whole (pos n) r.some)).0 e, (is_lt (is_whole (pos 0) r.some) r).0 high))
+      omega (arith, (is_lt r (is_negated i)).0 l, (is_eq i (is_whole (pos n) r.some)).0 e, (is_lt (is_whole (pos 0) r.some) r).0 high))
 
 module _ {R R' u : Frac} (high : whole (pos 0) <F R) (high' : whole (pos 0) <F R') where
   -- No trial passes both.
@@ -33,7 +33,7 @@ module _ {R R' u : Frac} (high : whole (pos 0) <F R) (high' : whole (pos 0) <F R
       at-common (R ∷ R' ∷ u ∷ [])
       (λ d ((_, _, r), ((_, _, r'), ((_, _, i), _))).
       let nought = is_whole (pos 0) r.some in
-      omega (arith, (is_lt r i).0 l, (is_lt r' (is_neg_lem i)).0 l', (is_lt nought r).0 high, (is_lt nought r').0 high'))
+      omega (arith, (is_lt r i).0 l, (is_lt r' (is_negated i)).0 l', (is_lt nought r).0 high, (is_lt nought r').0 high'))
 
   -- A flow is that of the limit which the trial passes; u is the trial s, whatever its denominator.
   pub branch_passes : (s : ℤ) → u ≈F whole s → (yielded : Bool) → (yielded ≡ true) ↔ ((R <F u) ⊎ (R' <F neg_f u))

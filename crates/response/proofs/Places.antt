@@ -1,19 +1,15 @@
 -- The variable that moved stands in its place: a law's answer on one variable is its answer for the state.
 use Prim.Native.Nat.{ℕ}
 use mathlib.Core.Path.{◌≡◌, refl, sym, ap, ◌∙◌}
-use mathlib.Core.List.{[], ◌∷◌}
 use mathlib.Core.Bool.{Bool, true, false, cond}
 use mathlib.Core.Logic.{◌⊎◌, inl, inr}
 use native.Mathlib.Omega.{arith}
 use lib.IntN.{ℤ}
-use denote.Enum.Declared.{tag_of}
-use types.Run.{OneOf}
 use Rattle.branch.specs.declared.Branch.TheVariants.{Tension, Compression}
 use Rattle.branch.specs.Branches.{branch_number}
 use Rattle.law.specs.declared.Law.{Law}
 use Rattle.law.specs.declared.Law.TheVariants.{IsotropicLine, IsotropicCurve, Kinematic, Asymmetric}
 use Rattle.law.specs.Laws.{has_second}
-use Rattle.law.specs.contracts.Law.{the_type}
 use Rattle.units.specs.declared.Grain.{Grain}
 use Rattle.units.specs.Signs.{is_neg}
 use Rattle.curve.specs.Curve.{Curve}
@@ -22,25 +18,11 @@ use Rattle.sheet.specs.declared.Sheet.{Sheet}
 use Rattle.sheet.specs.Sound.{tangent_of}
 use Rattle.response.specs.declared.Motion.{Motion}
 use Rattle.response.specs.declared.Motion.TheVariants as motions
-use Rattle.response.specs.Response.{flow_branch, Moved, isotropic_moved, kinematic_moved, in_first, in_second, asymmetric_outcome, outcome_under, outcome_of, moved_meaning, settled_by, response_meaning, AbscissaRight, VariablesRight}
-use Rattle.response.specs.SideFlows.{side_by}
+use Rattle.response.specs.Response.{flow_branch, Moved, isotropic_moved, kinematic_moved, in_first, in_second, asymmetric_outcome, outcome_under, outcome_of, moved_meaning, settled_by, response_meaning}
 
 -- Law 0 or 1.
 abbrev pub IsIsotropic : Law → Type 0
 IsIsotropic law = (law ≡ IsotropicLine) ⊎ (law ≡ IsotropicCurve)
-
--- The arm of a match that takes both.
-pub isotropic_arm : (law : Law) → OneOf (0 ∷ 1 ∷ []) (tag_of the_type law) → IsIsotropic law
-isotropic_arm IsotropicLine is = inl refl
-isotropic_arm IsotropicCurve is = inr refl
-isotropic_arm Kinematic (inl is) = absurd (omega arith)
-isotropic_arm Kinematic (inr is) = absurd (omega arith)
-isotropic_arm Asymmetric (inl is) = absurd (omega arith)
-isotropic_arm Asymmetric (inr is) = absurd (omega arith)
-
-pub first_is_abscissa_lem : {law : Law} (first second : ℤ) → IsIsotropic law → VariablesRight law first second → AbscissaRight first
-first_is_abscissa_lem first second (inl is) v = rw is at v
-first_is_abscissa_lem first second (inr is) v = rw is at v
 
 -- The branch of a flow goes by the trial's sign.
 branch_of_sign : (s : ℤ) (yielded negative : Bool) → is_neg s ≡ negative → flow_branch yielded s ≡ cond negative Tension Compression → ⊥
@@ -59,35 +41,35 @@ module _ (h : Sheet) (first second trial : Grain) where
   E = h.modulus.0
 
   -- The answer that a motion of the first variable makes, where the law has no second,
-  in_first_lem : (r : Motion) → has_second h.law ≡ false
+  moves_first : (r : Motion) → has_second h.law ≡ false
       → response_meaning (settled_by h first second trial r) ≡ in_first (moved_meaning E first.0 trial.0 r) second.0
   unfolding moved_meaning
-  in_first_lem motions.Still e = refl
-  in_first_lem (motions.Tension f) e = refl
-  in_first_lem (motions.Compression f) e = rw e
+  moves_first motions.Still e = refl
+  moves_first (motions.Tension f) e = refl
+  moves_first (motions.Compression f) e = rw e
 
-  no_second_lem : {law : Law} → h.law ≡ law → has_second law ≡ false → has_second h.law ≡ false
-  no_second_lem is e = ap has_second is ∙ e
+  has_no_second : {law : Law} → h.law ≡ law → has_second law ≡ false → has_second h.law ≡ false
+  has_no_second is e = ap has_second is ∙ e
 
   pub isotropic_response : (r : Motion) → IsIsotropic h.law
       → moved_meaning E first.0 trial.0 r ≡ isotropic_moved E (curve_of h.tension) first.0 trial.0
       → response_meaning (settled_by h first second trial r) ≡ outcome_of h first.0 second.0 trial.0
   unfolding outcome_under
-  isotropic_response r (inl is) e = in_first_lem r (no_second_lem is refl) ∙ rw is (ap (λ (m : Moved). in_first m second.0) e)
-  isotropic_response r (inr is) e = in_first_lem r (no_second_lem is refl) ∙ rw is (ap (λ (m : Moved). in_first m second.0) e)
+  isotropic_response r (inl is) e = moves_first r (has_no_second is refl) ∙ rw is (ap (λ (m : Moved). in_first m second.0) e)
+  isotropic_response r (inr is) e = moves_first r (has_no_second is refl) ∙ rw is (ap (λ (m : Moved). in_first m second.0) e)
 
   pub kinematic_response : (r : Motion) → h.law ≡ Kinematic
       → moved_meaning E first.0 trial.0 r ≡ kinematic_moved E (tangent_of h.tension 0) h.tension.yield_stress.0 first.0 trial.0
       → response_meaning (settled_by h first second trial r) ≡ outcome_of h first.0 second.0 trial.0
   unfolding outcome_under
-  kinematic_response r is e = in_first_lem r (no_second_lem is refl) ∙ rw is (ap (λ (m : Moved). in_first m second.0) e)
+  kinematic_response r is e = moves_first r (has_no_second is refl) ∙ rw is (ap (λ (m : Moved). in_first m second.0) e)
 
   -- Law 3 answers on the side of the trial's sign.
   abbrev variable_of : Bool → ℤ
   variable_of negative = cond negative second.0 first.0
 
   pub asymmetric_response : (r : Motion) (negative : Bool) → h.law ≡ Asymmetric → is_neg trial.0 ≡ negative
-      → moved_meaning E (variable_of negative) trial.0 r ≡ isotropic_moved E (curve_of (side_by negative h)) (variable_of negative) trial.0
+      → moved_meaning E (variable_of negative) trial.0 r ≡ isotropic_moved E (curve_of (cond negative h.compression h.tension)) (variable_of negative) trial.0
       → response_meaning (settled_by h first second trial r) ≡ outcome_of h first.0 second.0 trial.0
   unfolding outcome_under asymmetric_outcome moved_meaning
   asymmetric_response motions.Still true is s e = rw (is, s) (ap (in_second first.0) e)

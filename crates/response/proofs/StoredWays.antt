@@ -25,7 +25,7 @@ use Rattle.flow.proofs.SideRounding.{stored_within}
 use Rattle.response.specs.Response.{flow_branch, isotropic_moved, kinematic_moved, asymmetric_outcome, outcome_under, outcome_of}
 use Rattle.response.specs.Solved.{Shows, AbscissasPast}
 use Rattle.response.proofs.Candidates.{tension_hardens, compression_hardens}
-use Rattle.response.proofs.Laws.{past_yield_lem}
+use Rattle.response.proofs.Laws.{yield_within}
 
 -- A stress with the trial's sign that is no further from nought.
 signed_way : (yielded : Bool) (trial : ℤ) (m : ℕ) → m ≤ nat_abs trial → (yielded ≡ false → m ≡ nat_abs trial)
@@ -80,17 +80,17 @@ module _ (h : Sheet) (sound : SheetSound h) where
   way_under : (law : Law) → h.law ≡ law → (trial first second : ℤ) → AbscissasPast law h first second
       → let o = outcome_under law h first second trial in Shows o.branch o.stress trial
   unfolding outcome_under asymmetric_outcome curve_of
-  way_under IsotropicLine is trial (pos A) second p = isotropic_way sound.modulus_least (curve_of h.tension) (tension_hardens h sound) A (past_yield_lem p.past) trial
+  way_under IsotropicLine is trial (pos A) second p = isotropic_way sound.modulus_least (curve_of h.tension) (tension_hardens h sound) A (yield_within p.past) trial
   way_under IsotropicLine is trial (negsuc n) second p = absurd (true≢false p.not_negative)
-  way_under IsotropicCurve is trial (pos A) second p = isotropic_way sound.modulus_least (curve_of h.tension) (tension_hardens h sound) A (past_yield_lem p.past) trial
+  way_under IsotropicCurve is trial (pos A) second p = isotropic_way sound.modulus_least (curve_of h.tension) (tension_hardens h sound) A (yield_within p.past) trial
   way_under IsotropicCurve is trial (negsuc n) second p = absurd (true≢false p.not_negative)
   way_under Kinematic is trial X second p =
       kinematic_way h.modulus.0 (tangent_of h.tension 0) h.tension.yield_stress.0
       (omega (arith, sound.tension.tangents_below 0 sound.tension.count_least)) X trial
-  way_under Asymmetric is (pos m) (pos A) B p = isotropic_way sound.modulus_least (curve_of h.tension) (tension_hardens h sound) A (past_yield_lem p.0.past) (pos m)
+  way_under Asymmetric is (pos m) (pos A) B p = isotropic_way sound.modulus_least (curve_of h.tension) (tension_hardens h sound) A (yield_within p.0.past) (pos m)
   way_under Asymmetric is (pos m) (negsuc n) B p = absurd (true≢false p.0.not_negative)
   way_under Asymmetric is (negsuc m) A (pos B) p =
-      isotropic_way sound.modulus_least (curve_of h.compression) (compression_hardens h sound is) B (past_yield_lem p.1.past) (negsuc m)
+      isotropic_way sound.modulus_least (curve_of h.compression) (compression_hardens h sound is) B (yield_within p.1.past) (negsuc m)
   way_under Asymmetric is (negsuc m) A (negsuc n) p = absurd (true≢false p.1.not_negative)
 
 pub law_shows : (h : Sheet) (sound : SheetSound h) (trial first second : ℤ) → AbscissasPast h.law h first second

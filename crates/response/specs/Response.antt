@@ -15,7 +15,7 @@ use Rattle.curve.specs.Curve.{Curve, limit_at}
 use Rattle.curve.specs.Tangent.{tangent_at}
 use Rattle.curve.specs.Sides.{curve_of}
 use Rattle.sheet.specs.declared.Sheet.{Sheet}
-use Rattle.sheet.specs.Sound.{SheetSound, tangent_of}
+use Rattle.sheet.specs.Sound.{tangent_of}
 use Rattle.flow.specs.Stored.{isotropic_stored, kinematic_stored}
 use Rattle.response.specs.declared.Motion.{Motion}
 use Rattle.response.specs.declared.Motion.TheVariants.{Still, Tension, Compression}
@@ -146,9 +146,3 @@ VariablesRight Asymmetric first second = AbscissaRight first × AbscissaRight se
 -- SPEC 5.3: with a sheet that passes no trial stress from a state and a pair in their ranges is greater.
 abbrev pub most_trial : ℕ
 most_trial = 1000000000000000
-
--- SPEC 7.11: what the answer in 64 bits asks: a sheet that passes, variables in their ranges, and a trial stress within its bound.
-pub record Answerable (h : Sheet) (first second trial : ℤ) : Type 0 where
-  pub sound : SheetSound h
-  pub variables : VariablesRight h.law first second
-  pub trial_most : nat_abs trial ≤ most_trial

@@ -1,6 +1,6 @@
 -- What the functions behind a law's answer answer for one side (SPEC 7.11, 8.8), cited by this crate's contracts; definitions only, nothing
 -- is assumed.
-use Rattle.std.specs.Prelude.{ℕ, ◌+◌, ◌-◌, Bool, true, false, cond, pos, ltb}
+use Rattle.std.specs.Prelude.{ℕ, ◌+◌, ◌-◌, Bool, true, false, cond, pos, ltb, Option, Some, None}
 use Rattle.units.specs.declared.Magnitude.{Magnitude}
 use Rattle.units.specs.declared.Modulus.{Modulus}
 use Rattle.units.specs.Kinds.{magnitude, modulus, grain}
@@ -9,20 +9,13 @@ use Rattle.curve.specs.declared.Side.{Side}
 use Rattle.curve.specs.Curve.{limit_at}
 use Rattle.curve.specs.Tangent.{tangent_at}
 use Rattle.curve.specs.Sides.{curve_of}
-use Rattle.sheet.specs.declared.Sheet.{Sheet}
 use Rattle.response.specs.declared.Flowed.{Flowed}
 use Rattle.response.specs.declared.Motion.{Motion}
 use Rattle.response.specs.declared.Motion.TheVariants.{Tension, Compression}
-use Rattle.response.specs.declared.SideFlow.{SideFlow}
-use Rattle.response.specs.declared.SideFlow.TheVariants as sides
 
--- SPEC 3.9: the compression side of a sheet, or its tension side.
-abbrev pub side_by : (compression : Bool) → Sheet → Side
-side_by compression h = cond compression h.compression h.tension
-
--- SPEC 7.11: up to the limit a side stays; past it the abscissa grows by the excess.
-abbrev pub side_flow : (abscissa limit trial : ℕ) → SideFlow
-side_flow abscissa limit trial = cond (ltb limit trial) (sides.Grown (magnitude (abscissa + (trial - limit)))) sides.Still
+-- SPEC 7.11: up to the limit a side stays; past it the abscissa grows by the excess, which gives a new one.
+abbrev pub side_flow : (abscissa limit trial : ℕ) → Option Magnitude
+side_flow abscissa limit trial = cond (ltb limit trial) (Some (magnitude (abscissa + (trial - limit)))) None
 
 -- SPEC 7.8, 7.11: what a side leaves that has moved to an abscissa: the limit there with its sign, the abscissa, and the tangent.
 abbrev pub flow_at : Side → Modulus → Magnitude → (negative : Bool) → Flowed

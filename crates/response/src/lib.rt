@@ -2,23 +2,23 @@
 #![tactic(auto)]
 
 mod reached; // reached.rt: the yield limits that a rod has reached
+pub mod variables; // variables.rt: the two variables of a rod, from which a law starts
 
 ghost use Rattle.std.specs.Prelude.{◌≡◌, ◌+◌, ◌-◌, ◌≤◌, ◌<◌, ◌^◌, ltb, nat_abs};
-ghost use Rattle.ranges.specs.Ranges.{most_abscissa, most_modulus, most_stress};
+ghost use Rattle.ranges.specs.Ranges.{most_abscissa, most_stress};
 ghost use Rattle.units.specs.Kinds.{magnitude};
 ghost use Rattle.units.specs.Signs.{is_neg};
 ghost use Rattle.curve.specs.Curve.{limit_at};
-ghost use Rattle.curve.specs.Sides.{Readable, curve_of};
-ghost use Rattle.sheet.specs.Sound.{SideSound, tangent_of};
-ghost use Rattle.response.specs.Response.{Answerable, AbscissaRight, isotropic_moved, kinematic_moved, most_trial, moved_meaning, outcome_of, response_meaning, settled_by};
-ghost use Rattle.response.specs.Limits.{limits_of};
-ghost use Rattle.response.specs.SideFlows.{flow_at, flow_toward, side_by, side_flow};
+ghost use Rattle.curve.specs.Sides.{curve_of};
+ghost use Rattle.sheet.specs.Sound.{tangent_of};
+ghost use Rattle.response.specs.Response.{AbscissaRight, isotropic_moved, kinematic_moved, most_trial, moved_meaning, settled_by};
+ghost use Rattle.response.specs.SideFlows.{flow_at, flow_toward, side_flow};
 
 use branch::Branch;
-use curve::{Reading, Side};
-use law::Law;
+use curve::traction::TractionCurve;
 use sheet::Sheet;
-use units::{Grain, Magnitude, Modulus};
+use sheet::material::Material;
+use units::{Grain, Magnitude, Modulus, Quantity};
 
 // What a flow leaves: the stress, the variable that moved (an abscissa or the kinematic centre), and the tangent modulus there.
 #[derive(Clone, Copy)]
@@ -54,29 +54,22 @@ pub struct Limits {
     pub second: Magnitude,
 }
 
-// One side on magnitudes: whether it moved, and its new abscissa.
-#[derive(Clone, Copy)]
-enum SideFlow {
-    Still,
-    Grown(Magnitude),
-}
-
 // Whether the trial passes a limit (SPEC 6.6); equality doesn't.
 fn passes(trial: Magnitude, limit: Magnitude) -> bool
     ensures { result ≡ ltb limit.0 trial.0 }
 {
-    limit.below(trial)
+    limit < trial
 }
 
-// A side flows by the excess of the trial over the yield limit.
-fn side_flow(abscissa: Magnitude, limit: Magnitude, trial: Magnitude) -> SideFlow
+// A side's new abscissa, where it flows: by the excess of the trial over the yield limit.
+fn side_flow(abscissa: Magnitude, limit: Magnitude, trial: Magnitude) -> Option<Magnitude>
     requires { abscissa.0 + trial.0 < 2 ^ 63 }
     ensures { result ≡ side_flow abscissa.0 limit.0 trial.0 }
 {
     if !passes(trial, limit) {
-        return SideFlow::Still;
+        return None;
     }
-    SideFlow::Grown(abscissa.plus(trial.minus(limit)))
+    Some(abscissa.plus(trial.minus(limit)))
 }
 
 // A flow toward the trial, by its distance from the centre.
@@ -89,162 +82,85 @@ fn toward(distance: Grain, flowed: Flowed) -> Motion
     Motion::Tension(flowed)
 }
 
-// A flow, with the tangent modulus where the curve was read.
-fn with_tangent(stress: Grain, variable: Grain, reading: Reading) -> Flowed
-    ensures { result ≡ record { stress = stress; variable = variable; tangent = reading.tangent } }
-{
-    let tangent = reading.tangent;
-    Flowed {
-        stress: stress,
-        variable: variable,
-        tangent: tangent,
-    }
-}
-
 // What a side leaves that has moved to an abscissa: the stress lies at the limit there, negated in compression.
-fn flow(side: Side, modulus: Modulus, moved: Magnitude, negative: bool) -> Motion
-    requires { Readable side modulus × (moved.0 ≤ most_abscissa + most_trial) }
-    ensures { result ≡ flow_toward negative (flow_at side modulus moved negative) }
+fn flow(curve: TractionCurve<'_>, moved: Magnitude, negative: bool) -> Motion
+    requires { moved.0 ≤ most_abscissa + most_trial }
+    ensures { result ≡ flow_toward negative (flow_at curve.entry.side.now curve.entry.modulus moved negative) }
 {
-    let reading = side.at(modulus, moved);
+    let reading = curve.at(moved);
     let limit = Grain::of(false, reading.limit);
     let variable = Grain::of(false, moved);
+    let tangent = reading.tangent;
     if negative {
         let stress = Grain(0).minus(limit);
-        return Motion::Compression(with_tangent(stress, variable, reading));
+        return Motion::Compression(Flowed {
+            stress,
+            variable,
+            tangent,
+        });
     }
-    Motion::Tension(with_tangent(limit, variable, reading))
+    Motion::Tension(Flowed {
+        stress: limit,
+        variable,
+        tangent,
+    })
 }
 
 // The isotropic law on one side of the sheet, with the sign of the trial put back.
-fn isotropic(
-    sheet: Sheet,
-    compression: bool,
-    abscissa: Grain,
-    limit: Magnitude,
-    trial: Grain,
-    negative: bool,
-) -> Motion
-    requires readable { Readable (side_by compression sheet) sheet.modulus }
+fn isotropic(curve: TractionCurve<'_>, abscissa: Grain, limit: Magnitude, trial: Grain) -> Motion
     requires ranges { AbscissaRight abscissa.0 × (nat_abs trial.0 ≤ most_trial) }
-    requires limit { limit.0 ≡ limit_at sheet.modulus.0 (curve_of (side_by compression sheet)) (nat_abs abscissa.0) }
-    requires sign { negative ≡ is_neg trial.0 }
-    ensures { moved_meaning sheet.modulus.0 abscissa.0 trial.0 result ≡ isotropic_moved sheet.modulus.0 (curve_of (side_by compression sheet)) abscissa.0 trial.0 }
+    requires limit { limit.0 ≡ limit_at curve.modulus.0 (curve_of curve.side.now) (nat_abs abscissa.0) }
+    ensures { moved_meaning curve.entry.modulus.0 abscissa.0 trial.0 result ≡ isotropic_moved curve.entry.modulus.0 (curve_of curve.entry.side.now) abscissa.0 trial.0 }
 {
-    let SideFlow::Grown(moved) = side_flow(abscissa.magnitude(), limit, trial.magnitude()) else {
+    let Some(moved) = side_flow(abscissa.magnitude(), limit, trial.magnitude()) else {
         return Motion::Still;
     };
-    let modulus = sheet.modulus;
-    if compression {
-        let side = sheet.compression;
-        return flow(side, modulus, moved, negative);
-    }
-    let side = sheet.tension;
-    flow(side, modulus, moved, negative)
+    flow(curve, moved, trial.negative())
 }
 
 // The kinematic law: the centre moves toward the trial, and the stress is the radius further than the new centre.
-fn kinematic(side: Side, modulus: Modulus, centre: Grain, trial: Grain) -> Motion
-    requires side_sound { SideSound modulus.0 side × (modulus.0 ≤ most_modulus) }
+fn kinematic(material: &Material, centre: Grain, trial: Grain) -> Motion
     requires ranges { (nat_abs centre.0 ≤ most_stress) × (nat_abs trial.0 ≤ most_trial) }
-    ensures { moved_meaning modulus.0 centre.0 trial.0 result ≡ kinematic_moved modulus.0 (tangent_of side 0) side.yield_stress.0 centre.0 trial.0 }
+    ensures { moved_meaning material.now.sheet.modulus.0 centre.0 trial.0 result ≡ kinematic_moved material.now.sheet.modulus.0 (tangent_of material.now.sheet.tension 0) material.now.sheet.tension.yield_stress.0 centre.0 trial.0 }
 {
+    let side = &material.sheet.tension;
     let radius = side.yield_stress;
     let distance = trial.minus(centre);
     let size = distance.magnitude();
     if !passes(size, radius) {
         return Motion::Still;
     }
-    let segment = side.segments[0];
-    let tangent = segment.tangent;
+    let tangent = side.segments[0].tangent;
     let negative = distance.negative();
-    let shift = size.minus(radius).share(tangent, modulus);
+    let shift = size.minus(radius).share(tangent, material.sheet.modulus);
     let moved = centre.plus(Grain::of(negative, shift));
     let stress = moved.plus(Grain::of(negative, radius));
     toward(
         distance,
         Flowed {
-            stress: stress,
+            stress,
             variable: moved,
-            tangent: tangent,
+            tangent,
         },
     )
 }
 
-// The asymmetric law: the side that the trial lies on, as in the isotropic law.
-fn asymmetric(
-    sheet: Sheet,
-    limits: Limits,
-    first: Grain,
-    second: Grain,
-    trial: Grain,
-    negative: bool,
-) -> Motion
-    requires answerable { Answerable sheet first.0 second.0 trial.0 × (sheet.law ≡ Law.Asymmetric) }
-    requires limits { limits ≡ limits_of sheet first.0 second.0 }
-    requires sign { negative ≡ is_neg trial.0 }
-    ensures { response_meaning (settled_by sheet first second trial result) ≡ outcome_of sheet first.0 second.0 trial.0 }
-{
-    if negative {
-        let limit = limits.second;
-        return isotropic(sheet, true, second, limit, trial, negative);
-    }
-    let limit = limits.first;
-    isotropic(sheet, false, first, limit, trial, negative)
-}
-
-// What the sheet's law moves, from the limits at the two variables, the trial and its sign.
-fn move_by_law(
-    sheet: Sheet,
-    limits: Limits,
-    first: Grain,
-    second: Grain,
-    trial: Grain,
-    negative: bool,
-) -> Motion
-    requires answerable { Answerable sheet first.0 second.0 trial.0 }
-    requires limits { limits ≡ limits_of sheet first.0 second.0 }
-    requires sign { negative ≡ is_neg trial.0 }
-    ensures { response_meaning (settled_by sheet first second trial result) ≡ outcome_of sheet first.0 second.0 trial.0 }
-{
-    let law = sheet.law;
-    match law {
-        Law::IsotropicLine | Law::IsotropicCurve => {
-            let limit = limits.first;
-            isotropic(sheet, false, first, limit, trial, negative)
-        }
-        Law::Kinematic => {
-            let modulus = sheet.modulus;
-            let tension = sheet.tension;
-            kinematic(tension, modulus, first, trial)
-        }
-        Law::Asymmetric => asymmetric(sheet, limits, first, second, trial, negative),
-    }
-}
-
 // The law's answer, from what it moved: what didn't move is as it was.
-fn settle(sheet: Sheet, first: Grain, second: Grain, trial: Grain, motion: Motion) -> Response
-    ensures { result ≡ settled_by sheet first second trial motion }
+fn settle(sheet: &Sheet, first: Grain, second: Grain, trial: Grain, motion: Motion) -> Response
+    ensures { result ≡ settled_by sheet.now first second trial motion }
 {
     match motion {
-        Motion::Still => {
-            let modulus = sheet.modulus;
-            Response {
-                branch: Branch::Elastic,
-                stress: trial,
-                first: first,
-                second: second,
-                tangent: modulus,
-            }
-        }
-        Motion::Tension(flowed) => {
-            let moved = flowed.variable;
-            flowed_to(Branch::Tension, flowed, moved, second)
-        }
+        Motion::Still => Response {
+            branch: Branch::Elastic,
+            stress: trial,
+            first,
+            second,
+            tangent: sheet.modulus,
+        },
+        Motion::Tension(flowed) => flowed_to(Branch::Tension, flowed, flowed.variable, second),
         Motion::Compression(flowed) => {
             let moved = flowed.variable;
-            let law = sheet.law;
-            if law.has_second() {
+            if sheet.law.has_second() {
                 return flowed_to(Branch::Compression, flowed, first, moved);
             }
             flowed_to(Branch::Compression, flowed, moved, second)
@@ -256,31 +172,11 @@ fn settle(sheet: Sheet, first: Grain, second: Grain, trial: Grain, motion: Motio
 fn flowed_to(branch: Branch, flowed: Flowed, first: Grain, second: Grain) -> Response
     ensures { result ≡ record { branch = branch; stress = flowed.stress; first = first; second = second; tangent = flowed.tangent } }
 {
-    let stress = flowed.stress;
-    let tangent = flowed.tangent;
     Response {
-        branch: branch,
-        stress: stress,
-        first: first,
-        second: second,
-        tangent: tangent,
+        branch,
+        stress: flowed.stress,
+        first,
+        second,
+        tangent: flowed.tangent,
     }
-}
-
-// The answer of the sheet's law.
-pub fn respond(
-    sheet: Sheet,
-    limits: Limits,
-    first: Grain,
-    second: Grain,
-    trial: Grain,
-    negative: bool,
-) -> Response
-    requires answerable { Answerable sheet first.0 second.0 trial.0 }
-    requires limits { limits ≡ limits_of sheet first.0 second.0 }
-    requires sign { negative ≡ is_neg trial.0 }
-    ensures { response_meaning result ≡ outcome_of sheet first.0 second.0 trial.0 }
-{
-    let moved = move_by_law(sheet, limits, first, second, trial, negative);
-    settle(sheet, first, second, trial, moved)
 }

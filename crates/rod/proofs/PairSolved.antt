@@ -25,7 +25,7 @@ use Rattle.response.proofs.StoredWays.{law_shows}
 use Rattle.rod.specs.declared.Rod.{Rod}
 use Rattle.rod.specs.Against.{past_yield, isotropic_belongs, asymmetric_belongs, belongs_by, belongs}
 use Rattle.rod.specs.Steps.{strain_after, trial_of, plastic_of, plastic_at, outcome_after}
-use Rattle.rod.proofs.PlasticStrain.{plastic_change_lem}
+use Rattle.rod.proofs.PlasticStrain.{plastic_changes}
 use Rattle.rod.specs.Accepted.{Accepted}
 
 pub past_yield_is : (side : Side) (z : ℤ) → past_yield side z ≡ true → PastYield side.yield_stress.0 z
@@ -73,4 +73,4 @@ pub pair_shows : {h : Sheet} {r : Rod} → Accepted h r → (p : Pair) → let o
 pair_shows {h} {r} accepted p =
     let o = outcome_after h r p in
     same_shows o.branch (plastic_at h r) (plastic_of h (strain_after r p) p.temperature.0 o.stress) o.stress (trial_of h r p)
-    (plastic_change_lem h r p o.stress) (law_shows h accepted.sound (trial_of h r p) r.first.0 r.second.0 (past_of accepted))
+    (plastic_changes h r p o.stress) (law_shows h accepted.sound (trial_of h r p) r.first.0 r.second.0 (past_of accepted))

@@ -51,10 +51,10 @@ rest_change old elastic s s' =
       add_parts s elastic,
     ))
 
-pub plastic_change_lem : (h : Sheet) (r : Rod) (p : Pair) (stress : ℤ)
+pub plastic_changes : (h : Sheet) (r : Rod) (p : Pair) (stress : ℤ)
     → plastic_of h (strain_after r p) p.temperature.0 stress -ℤ plastic_at h r ≡ trial_of h r p -ℤ stress
 unfolding trial_of
-plastic_change_lem h r p stress =
+plastic_changes h r p stress =
     let E = h.modulus.0 in
     let before = thermal_of h r.temperature.0 in
     let after = thermal_of h p.temperature.0 in

@@ -1,7 +1,7 @@
 -- One pair (SPEC 5.2 to 5.5, 7.9, 7.10) with 9 and 10 (SPEC 8.2, 8.5), cited by carry, accuracy and the demands; definitions only,
 -- nothing is assumed.
 use Rattle.std.specs.Prelude.{◌+◌, Bool, not, ◌&&◌, List, [], ◌∷◌, ℤ, pos, ◌+ℤ◌, ◌-ℤ◌, ◌*ℤ◌, leb}
-use Rattle.refusals.specs.Table.{Refusal, refusal, Answer, passes, refused}
+use Rattle.refusals.specs.Table.{Refusal, refusal}
 use Rattle.ranges.specs.Ranges.{around, most_strain, most_stress, most_count}
 use Rattle.units.specs.Kinds.{nano, grain, modulus}
 use Rattle.bits.specs.Field.{flag}
@@ -13,8 +13,6 @@ use Rattle.response.specs.Response.{Outcome, outcome_of}
 use Rattle.rod.specs.declared.Rod.{Rod}
 use Rattle.rod.specs.declared.step.ThermalStrains.{ThermalStrains}
 use Rattle.rod.specs.declared.step.Advance.{Advance}
-use Rattle.rod.specs.declared.step.Stepped.{Stepped}
-use Rattle.rod.specs.declared.step.Stepped.TheVariants.{Advanced, StrainLeaves, OutOfRange}
 use Rattle.rod.specs.Variables.{first_right, second_right}
 
 -- SPEC 5.2: the strain after a pair, greater by the pair's change.
@@ -95,9 +93,3 @@ step_refusals h r p =
     refusal 9 (strain_leaves r p)
     ∷ refusal 10 (let o = outcome_after h r p in leaves_range r o.stress o.first o.second)
     ∷ []
-
--- SPEC 8.8: the number, or the next state with its row, that each case of the step's answer stands for.
-abbrev pub step_meaning : Stepped → Answer Advance
-step_meaning (Advanced a) = passes a
-step_meaning StrainLeaves = refused 9
-step_meaning OutOfRange = refused 10

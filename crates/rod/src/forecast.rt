@@ -3,49 +3,40 @@ ghost use Rattle.std.specs.Prelude.{◌≡◌, nat_abs};
 ghost use Rattle.units.specs.Kinds.{modulus};
 ghost use Rattle.curve.specs.Tangent.{tangent_at};
 ghost use Rattle.curve.specs.Sides.{curve_of};
-ghost use Rattle.sheet.specs.Sound.{SheetSound, tangent_of};
+ghost use Rattle.sheet.specs.Sound.{tangent_of};
 ghost use Rattle.rod.specs.Forecast.{forecast_of};
 
 use crate::Rod;
 use law::Law;
-use sheet::Sheet;
-use units::Modulus;
+use sheet::material::Material;
+use units::{Modulus, Quantity};
 
 // The tangent of the segment that holds the abscissa.
-fn on_curve(sheet: Sheet, rod: Rod) -> Modulus
-    requires { SheetSound sheet }
-    ensures { result ≡ modulus (tangent_at sheet.modulus.0 (curve_of sheet.tension) (nat_abs rod.first.0)) }
+fn on_curve(material: &Material, rod: Rod) -> Modulus
+    ensures { result ≡ modulus (tangent_at material.now.sheet.modulus.0 (curve_of material.now.sheet.tension) (nat_abs rod.first.0)) }
 {
-    let side = sheet.tension;
-    let modulus = sheet.modulus;
-    let first = rod.first;
-    let reading = side.at(modulus, first.magnitude());
+    let reading = material.tension().at(rod.first.magnitude());
     reading.tangent
 }
 
 // The tangent of the side's first segment.
-fn of_line(sheet: Sheet) -> Modulus
-    requires { SheetSound sheet }
-    ensures { result ≡ modulus (tangent_of sheet.tension 0) }
+fn of_line(material: &Material) -> Modulus
+    ensures { result ≡ modulus (tangent_of material.now.sheet.tension 0) }
 {
-    let side = sheet.tension;
-    let segment = side.segments[0];
-    segment.tangent
+    material.sheet.tension.segments[0].tangent
 }
 
-pub fn forecast(sheet: Sheet, rod: Rod) -> Modulus
-    requires { SheetSound sheet }
-    ensures { result ≡ modulus (forecast_of sheet rod) }
+#[tactic(auto, unfolding(crate::specs::Forecast::forecast_of))]
+pub fn forecast(material: &Material, rod: Rod) -> Modulus
+    ensures { result ≡ modulus (forecast_of material.now.sheet rod) }
 {
-    let modulus = sheet.modulus;
+    let sheet = &material.sheet;
     if !rod.yielded {
-        return modulus;
+        return sheet.modulus;
     }
-    let law = sheet.law;
-    match law {
-        Law::IsotropicLine => on_curve(sheet, rod),
-        Law::IsotropicCurve => on_curve(sheet, rod),
-        Law::Kinematic => of_line(sheet),
-        Law::Asymmetric => modulus,
+    match sheet.law {
+        Law::IsotropicLine | Law::IsotropicCurve => on_curve(material, rod),
+        Law::Kinematic => of_line(material),
+        Law::Asymmetric => sheet.modulus,
     }
 }

@@ -1,19 +1,22 @@
 // One pair (SPEC 7.9, 7.10): a rod is carried from state to state.
 ghost use Rattle.std.specs.Prelude.{◌≡◌, true, ◌+◌, ◌≤◌, ◌<◌, ◌^◌, nat_abs};
 ghost use Rattle.refusals.specs.Table.{first_of};
-ghost use Rattle.ranges.specs.Ranges.{most_count, most_stress};
+ghost use Rattle.refusals.specs.Reasons.{answer_of};
+ghost use Rattle.ranges.specs.Ranges.{around, most_count, most_strain, most_stress};
 ghost use Rattle.units.specs.Kinds.{grain};
 ghost use Rattle.response.specs.Response.{most_trial, response_meaning};
 ghost use Rattle.response.specs.Limits.{limits_of};
-ghost use Rattle.rod.specs.Steps.{advance_by, advance_of, leaves_range, step_meaning, step_refusals, thermal_strains_of, trial_of};
+ghost use Rattle.rod.specs.Steps.{advance_by, advance_of, leaves_range, step_refusals, thermal_strains_of, trial_of};
 ghost use Rattle.rod.specs.Accepted.{Accepted, PairAccepted};
 
 use crate::{Rod, variables};
 use pair::Pair;
+use refusals::Reason;
+use response::variables::Variables;
 use response::{Limits, Response};
 use row::Row;
-use sheet::Sheet;
-use units::{Grain, Nano};
+use sheet::material::Material;
+use units::{Grain, Nano, Quantity, Scaled};
 
 // The thermal strains before and after a pair (SPEC 5.1). Each is found once and goes along with the rod.
 #[derive(Clone, Copy)]
@@ -29,130 +32,118 @@ pub struct Advance {
     pub row: Row,
 }
 
-// What a step answers.
+// A rod that goes over a pair under its sheet, with the thermal strains at both temperatures.
 #[derive(Clone, Copy)]
-pub enum Stepped {
-    Advanced(Advance),
-    StrainLeaves,
-    OutOfRange,
+struct Step<'a> {
+    material: &'a Material,
+    rod: Rod,
+    thermals: ThermalStrains,
+    pair: Pair,
+    ghost accepted: { Accepted material.now.sheet rod },
+    ghost pair_accepted: { PairAccepted pair },
+    ghost thermals_own: { thermals ≡ thermal_strains_of material.now.sheet rod pair },
+}
+
+// Whether a strain lies in its range.
+fn strain_right(strain: Nano) -> bool
+    ensures { result ≡ around most_strain strain.0 }
+{
+    ranges::STRAIN.hold(strain.0)
 }
 
 // Whether a stress, a variable or the count of pairs would leave its range (SPEC 8.5).
+#[tactic(auto, unfolding(crate::specs::Steps::leaves_range))]
 fn leaves_range(rod: Rod, response: Response) -> bool
-    requires { rod.pairs < 2 ^ 32 }
     ensures { result ≡ leaves_range rod response.stress.0 response.first.0 response.second.0 }
 {
-    let law = rod.law;
-    let stress = response.stress;
-    let first = response.first;
-    let second = response.second;
-    if !stress
-        .magnitude()
-        .at_most(Grain(ranges::MOST_STRESS).magnitude())
-    {
-        return true;
-    }
-    if !variables::first_right(law, first) {
-        return true;
-    }
-    if !variables::second_right(law, second) {
-        return true;
-    }
-    let pairs = rod.pairs + 1;
-    ranges::MOST_COUNT < pairs
+    let stays = variables::stress_right(response.stress)
+        && variables::first_right(rod.law, response.first)
+        && variables::second_right(rod.law, response.second)
+        && rod.pairs < ranges::MOST_COUNT;
+    !stays
 }
 
-impl Rod {
-    // The trial stress of a pair (SPEC 5.3).
-    fn trial_stress(self, sheet: Sheet, pair: Pair, thermals: ThermalStrains) -> Grain
-        requires accepted { Accepted sheet self × PairAccepted pair }
-        requires thermals { thermals ≡ thermal_strains_of sheet self pair }
-        ensures value { result ≡ grain (trial_of sheet self pair) }
+impl<'a> Step<'a> {
+    // The trial stress (SPEC 5.3).
+    fn trial_stress(self) -> Grain
+        ensures value { result ≡ grain (trial_of self.entry.material.now.sheet self.entry.rod self.entry.pair) }
         ensures most { nat_abs result.0 ≤ most_trial }
     {
-        let modulus = sheet.modulus;
-        let stress = self.stress;
-        let before = thermals.before;
-        let after = thermals.after;
-        let change = pair.change;
-        let elastic = change.minus(after.minus(before));
-        stress.plus(elastic.times(modulus))
+        let thermal = self.thermals.after.minus(self.thermals.before);
+        let elastic = self.pair.change.minus(thermal);
+        self.rod
+            .stress
+            .plus(elastic.times(self.material.sheet.modulus))
     }
 
     // The next state and the row, from the new strain and what the law left.
-    fn advance(
-        self,
-        sheet: Sheet,
-        pair: Pair,
-        thermals: ThermalStrains,
-        response: Response,
-    ) -> Advance
-        requires accepted { Accepted sheet self × PairAccepted pair }
-        requires thermals { thermals ≡ thermal_strains_of sheet self pair }
-        requires room { (nat_abs response.stress.0 ≤ most_stress) × (self.pairs + 1 ≤ most_count) }
-        ensures { result ≡ advance_by sheet self pair (response_meaning response) }
+    fn advance(self, response: Response) -> Advance
+        requires { (nat_abs response.stress.0 ≤ most_stress) × (self.rod.pairs + 1 ≤ most_count) }
+        ensures { result ≡ advance_by self.entry.material.now.sheet self.entry.rod self.entry.pair (response_meaning response) }
     {
-        let branch = response.branch;
-        let yielded = branch.yielded();
+        let rod = self.rod;
         let stress = response.stress;
-        let first = response.first;
-        let second = response.second;
-        let tangent = response.tangent;
-        let law = self.law;
-        let modulus = sheet.modulus;
-        let strain = self.strain.plus(pair.change);
-        let temperature = pair.temperature;
-        let mechanical = strain.minus(thermals.after);
-        let plastic = mechanical.times(modulus).minus(stress);
-        let pairs = self.pairs + 1;
-        let yielded_pairs = self.yielded_pairs + bits::flag(yielded);
+        let yielded = response.branch.yielded();
+        let strain = rod.strain.plus(self.pair.change);
+        let mechanical = strain.minus(self.thermals.after);
+        let plastic = mechanical.times(self.material.sheet.modulus).minus(stress);
         let next = Rod {
-            law: law,
-            yielded: yielded,
-            strain: strain,
-            temperature: temperature,
-            stress: stress,
-            first: first,
-            second: second,
-            pairs: pairs,
-            yielded_pairs: yielded_pairs,
+            law: rod.law,
+            yielded,
+            strain,
+            temperature: self.pair.temperature,
+            stress,
+            first: response.first,
+            second: response.second,
+            pairs: rod.pairs + 1,
+            yielded_pairs: rod.yielded_pairs + u64::from(yielded),
         };
         let row = Row {
-            yielded: yielded,
-            branch: branch,
-            tangent: tangent,
-            stress: stress,
-            plastic: plastic,
+            yielded,
+            branch: response.branch,
+            tangent: response.tangent,
+            stress,
+            plastic,
         };
-        Advance {
-            rod: next,
-            row: row,
-        }
+        Advance { rod: next, row }
     }
+}
 
+impl Rod {
     // Carries the rod over one pair, or refuses it: 9, then 10. The limits are those at its variables, the thermal strains
     // those at its temperature and the pair's.
-    pub fn step(self, sheet: Sheet, limits: Limits, thermals: ThermalStrains, pair: Pair) -> Stepped
-        requires accepted { Accepted sheet self × PairAccepted pair }
-        requires limits { limits ≡ limits_of sheet self.first.0 self.second.0 }
-        requires thermals { thermals ≡ thermal_strains_of sheet self pair }
-        ensures { step_meaning result ≡ first_of (step_refusals sheet self pair) (advance_of sheet self pair) }
+    pub fn step(
+        self,
+        material: &Material,
+        limits: Limits,
+        thermals: ThermalStrains,
+        pair: Pair,
+    ) -> Result<Advance, Reason>
+        requires accepted { Accepted material.now.sheet self × PairAccepted pair }
+        requires limits { limits ≡ limits_of material.now.sheet self.first.0 self.second.0 }
+        requires thermals { thermals ≡ thermal_strains_of material.now.sheet self pair }
+        ensures { answer_of result ≡ first_of (step_refusals material.now.sheet self pair) (advance_of material.now.sheet self pair) }
     {
         let strain = self.strain.plus(pair.change);
-        if !strain
-            .magnitude()
-            .at_most(Nano(ranges::MOST_STRAIN).magnitude())
-        {
-            return Stepped::StrainLeaves;
+        if !strain_right(strain) {
+            return Err(Reason::StrainLeaves);
         }
-        let trial = self.trial_stress(sheet, pair, thermals);
-        let first = self.first;
-        let second = self.second;
-        let negative = trial.negative();
-        let response = response::respond(sheet, limits, first, second, trial, negative);
+        let step = Step {
+            material,
+            rod: self,
+            thermals,
+            pair,
+        };
+        let variables = Variables {
+            material,
+            first: self.first,
+            second: self.second,
+            limits,
+        };
+        let response = variables.respond(step.trial_stress());
         if leaves_range(self, response) {
-            return Stepped::OutOfRange;
+            return Err(Reason::SteelLeaves);
         }
-        Stepped::Advanced(self.advance(sheet, pair, thermals, response))
+        Ok(step.advance(response))
     }
 }

@@ -1,11 +1,10 @@
 // The rod of a sheet before its first pair (SPEC 3.15).
 ghost use Rattle.std.specs.Prelude.{◌≡◌, true, ◌<◌, ◌^◌};
 ghost use Rattle.units.specs.Kinds.{grain};
-ghost use Rattle.sheet.specs.Sound.{SheetSound};
 ghost use Rattle.rod.specs.Unused.{start_of, unused_of};
 
 use crate::Rod;
-use sheet::Sheet;
+use sheet::material::Material;
 use units::{Grain, Magnitude, Nano};
 
 // A variable of an unused rod.
@@ -20,24 +19,22 @@ fn start(abscissa: bool, yield_stress: Magnitude) -> Grain
 }
 
 impl Rod {
-    pub fn unused(sheet: Sheet) -> Rod
-        requires { SheetSound sheet }
-        ensures { result ≡ unused_of sheet }
+    #[tactic(auto, unfolding(crate::specs::Unused::unused_of))]
+    pub fn unused(material: &Material) -> Rod
+        ensures { result ≡ unused_of material.now.sheet }
     {
+        let sheet = &material.sheet;
         let law = sheet.law;
-        let reference = sheet.reference;
         let tension = sheet.tension.yield_stress;
         let compression = sheet.compression.yield_stress;
-        let first = start(law.first_is_abscissa(), tension);
-        let second = start(law.has_second(), compression);
         Rod {
-            law: law,
+            law,
             yielded: false,
             strain: Nano(0),
-            temperature: reference,
+            temperature: sheet.reference,
             stress: Grain(0),
-            first: first,
-            second: second,
+            first: start(law.first_is_abscissa(), tension),
+            second: start(law.has_second(), compression),
             pairs: 0,
             yielded_pairs: 0,
         }

@@ -1,5 +1,6 @@
 // The ranges of a rod's two variables under each law (SPEC 3.11).
 ghost use Rattle.std.specs.Prelude.{◌≡◌};
+ghost use Rattle.ranges.specs.Ranges.{around, most_stress};
 ghost use Rattle.rod.specs.Variables.{abscissa_right, first_right, second_right};
 
 use law::Law;
@@ -9,12 +10,14 @@ use units::Grain;
 fn abscissa_right(abscissa: Grain) -> bool
     ensures { result ≡ abscissa_right abscissa.0 }
 {
-    if abscissa.negative() {
-        return false;
-    }
-    abscissa
-        .magnitude()
-        .at_most(Grain(ranges::MOST_ABSCISSA).magnitude())
+    ranges::ABSCISSA.hold(abscissa.0)
+}
+
+// Whether a stress lies in its range, or a kinematic centre, whose range is the same.
+pub fn stress_right(stress: Grain) -> bool
+    ensures { result ≡ around most_stress stress.0 }
+{
+    ranges::STRESS.hold(stress.0)
 }
 
 // Whether the first variable lies in its range.
@@ -24,17 +27,12 @@ pub fn first_right(law: Law, first: Grain) -> bool
     if law.first_is_abscissa() {
         return abscissa_right(first);
     }
-    first
-        .magnitude()
-        .at_most(Grain(ranges::MOST_STRESS).magnitude())
+    stress_right(first)
 }
 
 // Whether the second variable lies in its range, where the law has one.
 pub fn second_right(law: Law, second: Grain) -> bool
     ensures { result ≡ second_right law second.0 }
 {
-    if law.has_second() {
-        return abscissa_right(second);
-    }
-    true
+    !law.has_second() || abscissa_right(second)
 }

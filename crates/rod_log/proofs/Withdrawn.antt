@@ -4,7 +4,7 @@ use mathlib.Core.Path.{◌≡◌, refl}
 use mathlib.Core.List.{List}
 use lib.ListN.{length}
 use Rattle.refusals.specs.Table.{withdrawn, Answer, passes, refused, first_of}
-use Rattle.refusals.proofs.FirstLaws.{InUse, Numbered, answer_number_lem}
+use Rattle.refusals.proofs.FirstLaws.{InUse, Numbered, number_stands}
 use Rattle.judge.specs.Standing.{Ready, ready_of}
 use Rattle.tie_rod.specs.Calls.{pairs_in}
 use Rattle.tie_rod.proofs.Numbers.{opening_numbers, walk_in_use}
@@ -17,7 +17,7 @@ told_in_use sheet state pairs = by_answer (first_of (log_refusals sheet state pa
     by_answer : (x : Answer Ready) → first_of (log_refusals sheet state pairs) (ready_of sheet state) ≡ x → InUse (told_by x pairs).number
     by_answer (passes x) e = walk_in_use x.sheet x.rod (pairs_in pairs)
     by_answer (refused n) e =
-        (answer_number_lem Numbered (log_refusals sheet state pairs) (ready_of sheet state) (opening_numbers sheet state (length pairs)) e).1
+        (number_stands Numbered (log_refusals sheet state pairs) (ready_of sheet state) (opening_numbers sheet state (length pairs)) e).1
 
 pub log_not_withdrawn : (log : List ℕ) → (log_told log).number ≡ withdrawn → ⊥
 log_not_withdrawn log = (told_in_use (sheet_part log) (state_part log) (pairs_part log)).1

@@ -3,5 +3,5 @@
 
 mod lines; // lines.rt: the lines of the text
 pub mod print; // print.rt: standard input and output
-mod text; // text.rt: texts and numbers, appended to a buffer
+mod text; // text.rt: a text that is written into a lent buffer
 pub mod walk; // walk.rt: a log's parts, the run on them, the whole text

@@ -21,7 +21,7 @@ pub fn print_text(rt: &impl Print, log: &[u8]) -> Result<()> {
 }
 
 // Reads until the buffer is full or the input ends: answers how many bytes it put at the start. They are the input's next ones, where those
-// are known, and fewer than the buffer holds only where no more come.
+// are known, and fewer than the buffer holds only where no more come. The loop is a `while`, since each read says how far it went.
 pub fn read_full<R: Read>(input: &mut R, buffer: &mut [u8]) -> Result<usize>
     ensures most { ReadsAtMost result buffer.new }
     ensures bytes { IfOk result (λ n. Consumes (R.remaining input.old) (R.remaining input.new) (take n buffer.new)) }

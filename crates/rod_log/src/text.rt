@@ -1,46 +1,59 @@
-// Texts and numbers (SPEC 12.5), appended one behind another to a lent buffer.
-ghost use Rattle.std.specs.Prelude.{◌+◌, ◌≤◌, ◌++◌, length};
+// A text that is written into a lent buffer (SPEC 12.5), one piece behind another.
+// Numbers are printed by hand: a `Display` needs a formatter, and here the bytes go to a lent buffer, without heap.
+ghost use Rattle.std.specs.Prelude.{◌≡◌, ◌+◌, ◌≤◌, ◌++◌, length};
 ghost use Rattle.rod_log.specs.Texts.{Appended, numeral, signed_numeral};
 
-use units::Grain;
+use units::{Grain, Quantity};
 
-pub(crate) fn append(out: &mut [u8], at: usize, text: &[u8]) -> usize
-    requires { at + length text.now ≤ length out.old }
-    ensures { Appended text.now out.old at out.new result }
-{
-    let end = at + text.len();
-    out[at..end].copy_from_slice(text);
-    end
+// The buffer, and where the next piece goes.
+#[derive(Drop)]
+pub(crate) struct Text<'a> {
+    pub out: &'a mut [u8],
+    pub at: usize,
 }
 
-// A number in decimal.
-pub(crate) fn decimal(out: &mut [u8], at: usize, n: u64) -> usize
-    requires { at + length (numeral n) ≤ length out.old }
-    ensures { Appended (numeral n) out.old at out.new result }
-{
-    let mut digits = [0u8; 20];
-    let count = io::decimal(n, &mut digits);
-    append(out, at, &digits[..count])
-}
-
-// A number in decimal and what stands behind it.
-pub(crate) fn number(out: &mut [u8], at: usize, n: u64, after: &[u8]) -> usize
-    requires { at + length (numeral n ++ after.now) ≤ length out.old }
-    ensures { Appended (numeral n ++ after.now) out.old at out.new result }
-{
-    let end = decimal(out, at, n);
-    append(out, end, after)
-}
-
-// The same for a stress, with its sign.
-pub(crate) fn signed(out: &mut [u8], at: usize, stress: Grain, after: &[u8]) -> usize
-    requires { at + length (signed_numeral stress.0 ++ after.now) ≤ length out.old }
-    ensures { Appended (signed_numeral stress.0 ++ after.now) out.old at out.new result }
-{
-    let size = stress.magnitude();
-    if stress.negative() {
-        let sign = append(out, at, b"-");
-        return number(out, sign, size.0, after);
+impl<'a> Text<'a> {
+    pub(crate) fn append(&mut self, piece: &[u8])
+        requires { self.old.at + length piece.now ≤ length self.old.out.now }
+        ensures same_buffer { self.new.out.ghost_name ≡ self.old.out.ghost_name }
+        ensures appended { Appended piece.now self.old.out.now self.old.at self.new.out.now self.new.at }
+    {
+        let end = self.at + piece.len();
+        self.out[self.at..end].copy_from_slice(piece);
+        self.at = end;
     }
-    number(out, at, size.0, after)
+
+    // A number in decimal.
+    pub(crate) fn decimal(&mut self, n: u64)
+        requires { self.old.at + length (numeral n) ≤ length self.old.out.now }
+        ensures same_buffer { self.new.out.ghost_name ≡ self.old.out.ghost_name }
+        ensures appended { Appended (numeral n) self.old.out.now self.old.at self.new.out.now self.new.at }
+    {
+        let mut digits = [0u8; 20];
+        let count = io::decimal(n, &mut digits);
+        self.append(&digits[..count]);
+    }
+
+    // A number in decimal and what stands behind it.
+    pub(crate) fn number(&mut self, n: u64, after: &[u8])
+        requires { self.old.at + length (numeral n ++ after.now) ≤ length self.old.out.now }
+        ensures same_buffer { self.new.out.ghost_name ≡ self.old.out.ghost_name }
+        ensures appended { Appended (numeral n ++ after.now) self.old.out.now self.old.at self.new.out.now self.new.at }
+    {
+        self.decimal(n);
+        self.append(after);
+    }
+
+    // The same for a stress, with its sign.
+    pub(crate) fn signed(&mut self, stress: Grain, after: &[u8])
+        requires { self.old.at + length (signed_numeral stress.0 ++ after.now) ≤ length self.old.out.now }
+        ensures same_buffer { self.new.out.ghost_name ≡ self.old.out.ghost_name }
+        ensures appended { Appended (signed_numeral stress.0 ++ after.now) self.old.out.now self.old.at self.new.out.now self.new.at }
+    {
+        let size = stress.magnitude();
+        if stress.negative() {
+            self.append(b"-");
+        }
+        self.number(size.0, after);
+    }
 }

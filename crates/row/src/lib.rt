@@ -5,37 +5,40 @@ ghost use Rattle.std.specs.Prelude.{◌≡◌, ◌+◌, ◌*◌, ◌^◌, ◌≤
 ghost use Rattle.bits.specs.Layout.{filled, packed, put};
 ghost use Rattle.row.specs.Rows.{RowFits, row_bytes, row_layout, row_length, row_of, row_values};
 
+use bits::Field;
 use branch::Branch;
 use units::{Grain, Modulus};
 
 // The bytes of a row.
 pub const ROW_LENGTH: usize = 16;
 
-// Its fields, in bits: each begins where the one before it ends.
-const YIELDED_AT: usize = 0;
+// Its fields, each of which begins where the one before it ends.
+const YIELDED: Field = Field { at: 0, width: 1 };
 
-const YIELDED_WIDTH: usize = 1;
+const BRANCH: Field = Field {
+    at: YIELDED.at + YIELDED.width,
+    width: 3,
+};
 
-const BRANCH_AT: usize = YIELDED_AT + YIELDED_WIDTH;
+const TANGENT: Field = Field {
+    at: BRANCH.at + BRANCH.width,
+    width: 20,
+};
 
-const BRANCH_WIDTH: usize = 3;
+const STRESS: Field = Field {
+    at: TANGENT.at + TANGENT.width,
+    width: 48,
+};
 
-const TANGENT_AT: usize = BRANCH_AT + BRANCH_WIDTH;
-
-const TANGENT_WIDTH: usize = 20;
-
-const STRESS_AT: usize = TANGENT_AT + TANGENT_WIDTH;
-
-const STRESS_WIDTH: usize = 48;
-
-const PLASTIC_AT: usize = STRESS_AT + STRESS_WIDTH;
-
-const PLASTIC_WIDTH: usize = 56;
+const PLASTIC: Field = Field {
+    at: STRESS.at + STRESS.width,
+    width: 56,
+};
 
 // In bytes, as they are written: the three fields in front, the stress, and where the last eight bytes begin.
-const FRONT_LENGTH: usize = STRESS_AT / 8;
+const FRONT_LENGTH: usize = STRESS.at / 8;
 
-const STRESS_LENGTH: usize = STRESS_WIDTH / 8;
+const STRESS_LENGTH: usize = STRESS.width / 8;
 
 const LAST_WORD_AT: usize = ROW_LENGTH - 8;
 
@@ -54,17 +57,13 @@ impl Row {
     pub fn read(s: &[u8]) -> Row
         ensures { result ≡ row_of s.now }
     {
-        let mark = bits::read(s, YIELDED_AT, YIELDED_WIDTH);
-        let branch = bits::read(s, BRANCH_AT, BRANCH_WIDTH);
-        let tangent = bits::read(s, TANGENT_AT, TANGENT_WIDTH);
-        let stress = bits::read_whole(s, STRESS_AT, STRESS_WIDTH);
-        let plastic = bits::read_whole(s, PLASTIC_AT, PLASTIC_WIDTH);
+        let mark: u64 = YIELDED.read(s);
         Row {
             yielded: mark == 1,
-            branch: Branch::of(branch),
-            tangent: Modulus(tangent),
-            stress: Grain(stress),
-            plastic: Grain(plastic),
+            branch: Branch::from(BRANCH.read::<u64>(s)),
+            tangent: Modulus(TANGENT.read(s)),
+            stress: Grain(STRESS.read(s)),
+            plastic: Grain(PLASTIC.read(s)),
         }
     }
 
@@ -73,19 +72,17 @@ impl Row {
         requires { j < 2 ^ 52 }
         ensures { result ≡ (row_of (take row_length (drop (row_length * j) rows.now))).stress }
     {
-        let at = 8 * ROW_LENGTH * j + STRESS_AT;
-        let stress = bits::read_whole(rows, at, STRESS_WIDTH);
-        Grain(stress)
+        Grain(STRESS.behind(8 * ROW_LENGTH * j).read(rows))
     }
 
     // The first three fields as one number of 24 bits: yielded, branch, tangent.
+    #[tactic(auto, using(branch::proofs::BranchLaws::number_below_three, bits::proofs::SignLaws::flag_below), unfolding(bits::specs::Layout::widths, bits::specs::Layout::packed))]
     fn front(self) -> u64
         requires { RowFits self }
         ensures { result ≡ packed (take 3 (filled row_layout (row_values self))) }
     {
-        let branch = self.branch;
-        let marks = (bits::flag(self.yielded) << BRANCH_WIDTH) + branch.number();
-        (marks << TANGENT_WIDTH) + self.tangent.0
+        let marks = (u64::from(self.yielded) << BRANCH.width) + u64::from(self.branch);
+        (marks << TANGENT.width) + self.tangent.0
     }
 
     // Writes the row at a place of a lent buffer.
@@ -94,9 +91,8 @@ impl Row {
         ensures { buffer.new ≡ put buffer.old at (row_bytes self) }
     {
         // Eight bytes where seven would do: the compiler then joins some of their stores. The stress is written over the first.
-        bits::write_signed(buffer, at + LAST_WORD_AT, 8, self.plastic.0);
-        bits::write_signed(buffer, at + FRONT_LENGTH, STRESS_LENGTH, self.stress.0);
-        let front = self.front();
-        bits::write(buffer, at, FRONT_LENGTH, front);
+        bits::write(buffer, at + LAST_WORD_AT, 8, self.plastic.0);
+        bits::write(buffer, at + FRONT_LENGTH, STRESS_LENGTH, self.stress.0);
+        bits::write(buffer, at, FRONT_LENGTH, self.front());
     }
 }

@@ -4,7 +4,5 @@ pub mod Numbers
 pub mod MovesLaws
 pub mod SectionLaws
 pub mod SectionBounds
-pub mod Rows
-pub mod Parts
 pub mod Stepwise
 pub mod Tallying

@@ -3,11 +3,15 @@ use Prim.Native.Nat.{ℕ, suc, ◌+◌, ◌≤◌, ◌<◌}
 use mathlib.Core.Path.{◌≡◌, refl, sym, ap, subst, ◌∙◌}
 use mathlib.Core.Bool.{Bool, true, false, not, ◌&&◌, cond, true≢false}
 use mathlib.Core.List.{List, [], ◌∷◌, ◌++◌, map}
-use borrow.Author.Tests.{ne_eqb, eq-eqb}
+use borrow.Author.Tests.{ne_eqb}
 use native.Mathlib.Omega.{arith}
 use lib.Dec.{eqb}
 use lib.IntN.{ℤ, pos, nat_abs, ◌+ℤ◌, +ℤ_assoc, +ℤ_idl, +ℤ_idr}
 use lib.ListN.{length, length-append}
+use Rattle.std.specs.Prelude.{Ok, Err}
+use Rattle.refusals.specs.declared.Reason.{Reason}
+use Rattle.refusals.specs.Reasons.{number_of}
+use Rattle.refusals.proofs.ReasonLaws.{reason_numbered}
 use Rattle.refusals.specs.Table.{Answer, passes, refused, refusal, first_of}
 use Rattle.refusals.proofs.FirstLaws.{Numbered, both_hold, stops_first, goes_on}
 use Rattle.units.proofs.Magnitudes.{magnitude_sum}
@@ -17,10 +21,8 @@ use Rattle.rod.specs.declared.step.Advance.{Advance}
 use Rattle.section.specs.declared.Member.{Member}
 use Rattle.section.specs.declared.Change.{Change}
 use Rattle.section.specs.declared.Movement.{Movement}
-use Rattle.section.specs.declared.Tally.{Tally}
-use Rattle.section.specs.declared.Opening.{Opening}
-use Rattle.section.specs.Sections.{member_right, all_right, call_right, section_refusals, member_answer, force_of, moment_of, most_force, most_moment, Move, move_of, Moves, all, stopped, moves_on, moves_from, sum, section_left, settled, section_by, section_leaves}
-use Rattle.section.specs.Tallies.{bare_tally, added_to, counted, sections_own, tally_of, tally_all, next_by, next_of, next_all, settled_after, reply_of, MovementRight, Room, GoesOn, open_refusals, start_by, Opened}
+use Rattle.section.specs.Sections.{member_right, all_right, call_right, section_refusals, member_answer, force_of, moment_of, most_force, most_moment, Move, move_of, Moves, all, stopped, moves_on, moves_from, sum, section_left, turned_away, settled, section_by, section_leaves}
+use Rattle.section.specs.Tallies.{Tally, bare_tally, added_to, counted, sections_own, tally_of, tally_all, next_by, next_of, next_all, settled_after, reply_of, Room, GoesOn, open_refusals, start_by, Opened}
 use Rattle.section.proofs.MemberLaws.{force_most, force_magnitude, moment_most, moment_magnitude, next_stress_most}
 use Rattle.section.proofs.MovesLaws.{same_all, Pass, moves_of, pass_move, all_pass, one_stopped}
 use Rattle.section.proofs.Numbers.{lines_numbered, member_numbered}
@@ -28,10 +30,9 @@ use Rattle.section.proofs.Numbers.{lines_numbered, member_numbered}
 -- ---- Room
 
 -- Room for more is room for fewer.
-pub fewer : (x : Movement) (t : Tally) (n k : ℕ) → k ≤ n → GoesOn n x t → GoesOn k x t
-fewer x t n k less ready e =
-    let (right, room) = ready e in
-    (right, record { seen = omega (arith, room.seen, less); force = room.force; moment = room.moment })
+pub fewer : (t : Tally) (n k : ℕ) → k ≤ n → GoesOn n t → GoesOn k t
+fewer t n k less ready e =
+    let room = ready e in record { seen = omega (arith, room.seen, less); force = room.force; moment = room.moment }
 
 room_added : (t : Tally) (m : Member) (stress : ℤ) (n : ℕ) → Room (suc n) t → nat_abs (force_of m stress) ≤ most_force → nat_abs (moment_of m stress) ≤ most_moment
     → Room n (added_to t m stress)
@@ -42,39 +43,32 @@ room_added t m stress n room force moment =
       moment = omega (arith, magnitude_sum t.moment (moment_of m stress), room.moment, moment);
     }
 
-pub ready_step : (x : Movement) (t : Tally) (m : Member) (n : ℕ) → GoesOn (suc n) x t → GoesOn n x (tally_of x t m)
+pub ready_step : (x : Movement) (t : Tally) (m : Member) (n : ℕ) → GoesOn (suc n) t → GoesOn n (tally_of x t m)
 unfolding tally_of sections_own
 ready_step x t m n ready = by_own (sections_own t) refl
   where
-    by_answer : (a : Answer Advance) → member_answer x.sheet x.change m ≡ a → member_right m ≡ true → sections_own t ≡ false → GoesOn n x (counted t m a)
+    by_answer : (a : Answer Advance) → member_answer x.material.sheet x.change m ≡ a → member_right m ≡ true → sections_own t ≡ false → GoesOn n (counted t m a)
     by_answer (passes a) e right goes done =
-        let (whole, room) = ready goes in
+        let room = ready goes in
         let stress = a.rod.stress.0 in
-        let most = next_stress_most x.sheet x.change m whole.sound e in
+        let most = next_stress_most x.material.sheet x.change m x.material.sound e in
         let force : nat_abs (force_of m stress) ≤ most_force = omega (arith, force_magnitude m stress right most, force_most m stress right most) in
         let moment : nat_abs (moment_of m stress) ≤ most_moment = omega (arith, moment_magnitude m stress right most, moment_most m stress right most) in
-        (whole, room_added t m stress n room force moment)
+        room_added t m stress n room force moment
     by_answer (refused number) e right goes done =
-        let (whole, room) = ready goes in
-        (whole, record { seen = omega (arith, room.seen); force = omega arith; moment = omega arith })
+        let room = ready goes in record { seen = omega (arith, room.seen); force = omega arith; moment = omega arith }
 
-    by_number : (b : Bool) → member_right m ≡ true → sections_own t ≡ false → GoesOn n x (cond b (counted t m (member_answer x.sheet x.change m)) t)
-    by_number true right goes = by_answer (member_answer x.sheet x.change m) refl right goes
-    by_number false right goes = fewer x t (suc n) n (omega arith) ready
+    by_number : (b : Bool) → member_right m ≡ true → sections_own t ≡ false → GoesOn n (cond b (counted t m (member_answer x.material.sheet x.change m)) t)
+    by_number true right goes = by_answer (member_answer x.material.sheet x.change m) refl right goes
+    by_number false right goes = fewer t (suc n) n (omega arith) ready
 
-    by_right : (b : Bool) → member_right m ≡ b → sections_own t ≡ false → GoesOn n x (cond (not b) (bare_tally 14 0) (cond (eqb t.number 0) (counted t m (member_answer x.sheet x.change m)) t))
+    by_right : (b : Bool) → member_right m ≡ b → sections_own t ≡ false → GoesOn n (cond (not b) (bare_tally 14 0) (cond (eqb t.number 0) (counted t m (member_answer x.material.sheet x.change m)) t))
     by_right true right goes = by_number (eqb t.number 0) right goes
     by_right false wrong goes = λ e. absurd (true≢false e)
 
-    by_own : (b : Bool) → sections_own t ≡ b → GoesOn n x (cond b t (cond (not (member_right m)) (bare_tally 14 0) (cond (eqb t.number 0) (counted t m (member_answer x.sheet x.change m)) t)))
-    by_own true own = fewer x t (suc n) n (omega arith) ready
+    by_own : (b : Bool) → sections_own t ≡ b → GoesOn n (cond b t (cond (not (member_right m)) (bare_tally 14 0) (cond (eqb t.number 0) (counted t m (member_answer x.material.sheet x.change m)) t)))
+    by_own true own = fewer t (suc n) n (omega arith) ready
     by_own false goes = by_right (member_right m) refl goes
-
--- Where no number is given in the end, sheet and change were right.
-pub settled_right : (x : Movement) (t : Tally) (ms : List Member) → GoesOn (length ms) x t → (tally_all x t ms).number ≡ 0 → MovementRight x
-unfolding tally_all sections_own
-settled_right x t [] ready e = (ready (rw (eq-eqb t.number 0 e))).0
-settled_right x t (m ∷ ms) ready e = settled_right x (tally_of x t m) ms (ready_step x t m (length ms) ready) e
 
 -- ---- The order of the numbers
 
@@ -91,7 +85,7 @@ waits x n place [] some = refl
 waits x n place (m ∷ ms) some = by_right (member_right m) (waits x n place ms some)
   where
     by_right : (b : Bool) → tally_all x (bare_tally n (suc place)) ms ≡ cond (all_right ms) (bare_tally n (suc place)) (bare_tally 14 0)
-        → tally_all x (cond (not (eqb n 0) && eqb (suc place) 0) (bare_tally n (suc place)) (cond (not b) (bare_tally 14 0) (cond (eqb n 0) (counted (bare_tally n (suc place)) m (member_answer x.sheet x.change m)) (bare_tally n (suc place))))) ms
+        → tally_all x (cond (not (eqb n 0) && eqb (suc place) 0) (bare_tally n (suc place)) (cond (not b) (bare_tally 14 0) (cond (eqb n 0) (counted (bare_tally n (suc place)) m (member_answer x.material.sheet x.change m)) (bare_tally n (suc place))))) ms
         ≡ cond (b && all_right ms) (bare_tally n (suc place)) (bare_tally 14 0)
     by_right true behind = rw (ne_eqb n 0 some, ne_eqb (suc place) 0 (λ e. omega (arith, e))) behind
     by_right false behind = rw (ne_eqb n 0 some, ne_eqb (suc place) 0 (λ e. omega (arith, e))) (stands x 14 ms (λ e. omega (arith, e)))
@@ -112,10 +106,10 @@ tallied force moment seen (stopped number place) = bare_tally number place
 
 module _ (x : Movement) where
   abbrev answer : Member → Answer Advance
-  answer m = member_answer x.sheet x.change m
+  answer m = member_answer x.material.sheet x.change m
 
   abbrev moves : (place : ℕ) → List Member → Moves
-  moves place ms = moves_from x.sheet x.change place ms
+  moves place ms = moves_from x.material.sheet x.change place ms
 
   -- The tally of all is that of the moves, and 14 where a member isn't right.
   tallies : (ms : List Member) (force moment : ℤ) (seen : ℕ)
@@ -149,7 +143,7 @@ module _ (x : Movement) where
       by_answer (refused n) e behind =
           let place : seen + 1 ≡ suc seen = omega arith in
           subst (λ (p : ℕ). tally_all x (bare_tally n p) ms ≡ cond (all_right ms) (bare_tally n p) (bare_tally 14 0)) (sym place)
-          (waits x n seen ms (member_numbered x.sheet x.change m e).0)
+          (waits x n seen ms (member_numbered x.material.sheet x.change m e).0)
 
       by_right : (b : Bool) (a : Answer Advance) → answer m ≡ a
           → ((f k : ℤ) (n : ℕ) → tally_all x (so_far f k n) ms ≡ cond (all_right ms) (tallied f k n (moves (n + 1) ms)) (bare_tally 14 0))
@@ -159,8 +153,8 @@ module _ (x : Movement) where
       by_right false a e behind = stands x 14 ms (λ z. omega (arith, z))
 
   -- Where every member passes, each one's next is what it moves to.
-  nexts : (ms : List Member) (advances : List Advance) → all_right ms ≡ true → Pass x.sheet x.change ms advances
-      → next_all x ms ≡ map (λ (v : Move). v.to) (moves_of x.sheet x.change ms advances)
+  nexts : (ms : List Member) (advances : List Advance) → all_right ms ≡ true → Pass x.material.sheet x.change ms advances
+      → next_all x ms ≡ map (λ (v : Move). v.to) (moves_of x.material.sheet x.change ms advances)
   unfolding all_right next_of
   nexts [] advances right pass = refl
   nexts (m ∷ ms) [] right pass = absurd pass
@@ -197,66 +191,66 @@ lines_are sheet t = by_sheet (first_of (sheet_refusals sheet) (sheet_of sheet)) 
     by_sheet (refused n) e = stops_first (sheet_refusals sheet) (refusal 14 t ∷ []) (sheet_of sheet) (sheet_of sheet) n e
     by_sheet (passes h) e = goes_on (sheet_refusals sheet) (refusal 14 t ∷ []) (sheet_of sheet) (sheet_of sheet) e
 
-module _ (sheet : List ℕ) (c : Change) (ms after : List Member) (o : Opening) (t : Tally) (opened : Opened sheet (length ms) c o)
-    (tally : t ≡ tally_all o.movement o.start ms) (moved : after ≡ settled_after o.movement o.start ms) where
-  abbrev whole : Movement
-  whole = record { sheet = sheet_of sheet; change = c }
+-- Where the call stops before the first member.
+pub section_stops : (sheet : List ℕ) (c : Change) (ms : List Member) (r : Reason) → Opened sheet (length ms) c (Err r)
+    → section_left (reply_of (bare_tally (number_of r) 0)) ms ≡ section_leaves sheet c ms
+unfolding section_leaves section_refusals open_refusals
+section_stops sheet c ms r opened =
+    by_sheet (first_of (sheet_refusals sheet) (sheet_of sheet)) (call_right (length ms) c)
+    (ap (λ (t : Tally). t.number) opened.start ∙ ap (λ (q : Answer Sheet). (start_by q).number) (lines_are sheet (not (call_right (length ms) c))))
+    ∙ ap (λ (q : Answer Sheet). section_by q c ms) (sym (lines_are sheet (not (call_right (length ms) c && all_right ms))))
+  where
+    by_sheet : (q : Answer Sheet) (b : Bool) → number_of r ≡ (start_by (below q (not b) (passes (sheet_of sheet)))).number
+        → section_left (reply_of (bare_tally (number_of r) 0)) ms ≡ section_by (below q (not (b && all_right ms)) (passes (sheet_of sheet))) c ms
+    by_sheet (refused n) b is = ap (λ (k : ℕ). turned_away k 0 ms) is
+    by_sheet (passes h) false is = ap (λ (k : ℕ). turned_away k 0 ms) is
+    by_sheet (passes h) true is = absurd ((reason_numbered r).0 is)
 
+-- Where it goes on, what the tally and the members after it come to.
+module _ (sheet : List ℕ) (c : Change) (ms after : List Member) (x : Movement) (t : Tally) (opened : Opened sheet (length ms) c (Ok x))
+    (tally : t ≡ tally_all x (bare_tally 0 0) ms) (moved : after ≡ settled_after x (bare_tally 0 0) ms) where
   -- A tally that ended with a number leaves the members as they were.
-  refused_is : (n p : ℕ) → (n ≡ 0 → ⊥) → tally_all o.movement o.start ms ≡ bare_tally n p
-      → section_left (reply_of t) after ≡ section_left (record { number = n; place = p; force = pos 0; moment = pos 0 }) ms
+  refused_is : (n p : ℕ) → (n ≡ 0 → ⊥) → tally_all x (bare_tally 0 0) ms ≡ bare_tally n p → section_left (reply_of t) after ≡ turned_away n p ms
   unfolding settled_after
   refused_is n p some is =
       let reply = ap reply_of (tally ∙ is) in
-      let kept : after ≡ ms = moved ∙ ap (λ (y : Tally). cond (eqb y.number 0) (next_all o.movement ms) ms) is ∙ rw (ne_eqb n 0 some) in
+      let kept : after ≡ ms = moved ∙ ap (λ (y : Tally). cond (eqb y.number 0) (next_all x ms) ms) is ∙ rw (ne_eqb n 0 some) in
       λ i. section_left (reply i) (kept i)
 
-  by_moves : (v : Moves) → moves_from (sheet_of sheet) c 1 ms ≡ v → all_right ms ≡ true → o.movement ≡ whole
-      → tally_all o.movement o.start ms ≡ tallied (pos 0) (pos 0) 0 v → section_left (reply_of t) after ≡ settled v ms
+  by_moves : (v : Moves) → moves_from x.material.sheet x.change 1 ms ≡ v → all_right ms ≡ true
+      → tally_all x (bare_tally 0 0) ms ≡ tallied (pos 0) (pos 0) 0 v → section_left (reply_of t) after ≡ settled v ms
   unfolding settled_after
-  by_moves (stopped n p) e right is all_are = refused_is n p (stopped_at (sheet_of sheet) c 1 ms e).numbered.0 all_are
-  by_moves (all vs) e right is all_are =
+  by_moves (stopped n p) e right all_are = refused_is n p (stopped_at x.material.sheet x.change 1 ms e).numbered.0 all_are
+  by_moves (all vs) e right all_are =
       let force = +ℤ_idl (forces vs) in
       let moment = +ℤ_idl (moments vs) in
       let reply = ap reply_of (tally ∙ all_are) in
-      let passing = all_pass (sheet_of sheet) c 1 ms e in
-      let same = same_all (sym (pass_move (sheet_of sheet) c 1 ms passing.advances passing.pass) ∙ e) in
-      let members : after ≡ map (λ (v : Move). v.to) vs = moved ∙ ap (λ (y : Tally). cond (eqb y.number 0) (next_all o.movement ms) ms) all_are
-      ∙ ap (λ (y : Movement). next_all y ms) is ∙ nexts whole ms passing.advances right passing.pass ∙ ap (λ (ws : List Move). map (λ (v : Move). v.to) ws) same in
+      let passing = all_pass x.material.sheet x.change 1 ms e in
+      let same = same_all (sym (pass_move x.material.sheet x.change 1 ms passing.advances passing.pass) ∙ e) in
+      let members : after ≡ map (λ (v : Move). v.to) vs = moved ∙ ap (λ (y : Tally). cond (eqb y.number 0) (next_all x ms) ms) all_are
+      ∙ nexts x ms passing.advances right passing.pass ∙ ap (λ (ws : List Move). map (λ (v : Move). v.to) ws) same in
       (λ i. section_left (reply i) (members i)) ∙ (λ i. section_left (record { number = 0; place = 0; force = force i; moment = moment i }) (map (λ (v : Move). v.to) vs))
 
-  by_right : (r : Bool) → all_right ms ≡ r → o.movement ≡ whole → o.start ≡ so_far (pos 0) (pos 0) 0
-      → section_left (reply_of t) after ≡ section_by (cond (not r) (refused 14) (passes (sheet_of sheet))) c ms
-  by_right r right is start =
-      let all_are : tally_all o.movement o.start ms ≡ cond r (tallied (pos 0) (pos 0) 0 (moves_from (sheet_of sheet) c 1 ms)) (bare_tally 14 0) =
-      (λ i. tally_all (is i) (start i) ms) ∙ tallies whole ms (pos 0) (pos 0) 0 ∙ ap (λ (b : Bool). cond b (tallied (pos 0) (pos 0) 0 (moves_from (sheet_of sheet) c 1 ms)) (bare_tally 14 0)) right in
-      by r right all_are
-    where
-      by : (r : Bool) → all_right ms ≡ r → tally_all o.movement o.start ms ≡ cond r (tallied (pos 0) (pos 0) 0 (moves_from (sheet_of sheet) c 1 ms)) (bare_tally 14 0)
-          → section_left (reply_of t) after ≡ section_by (cond (not r) (refused 14) (passes (sheet_of sheet))) c ms
-      by true right all_are = by_moves (moves_from (sheet_of sheet) c 1 ms) refl right is all_are
-      by false right all_are = refused_is 14 0 (λ e. omega (arith, e)) all_are
+  by_right : (r : Bool) → all_right ms ≡ r → tally_all x (bare_tally 0 0) ms ≡ cond r (tallied (pos 0) (pos 0) 0 (moves_from x.material.sheet x.change 1 ms)) (bare_tally 14 0)
+      → section_left (reply_of t) after ≡ section_by (cond (not r) (refused 14) (passes x.material.sheet)) x.change ms
+  by_right true right all_are = by_moves (moves_from x.material.sheet x.change 1 ms) refl right all_are
+  by_right false right all_are = refused_is 14 0 (λ e. omega (arith, e)) all_are
 
-  by_sheet : (q : Answer Sheet) (b : Bool) → first_of (open_refusals sheet (length ms) c) (sheet_of sheet) ≡ below q (not b) (passes (sheet_of sheet))
+  -- The lines before the first member don't apply.
+  by_sheet : (q : Answer Sheet) (b : Bool) → 0 ≡ (start_by (below q (not b) (passes (sheet_of sheet)))).number → first_of (open_refusals sheet (length ms) c) (sheet_of sheet) ≡ below q (not b) (passes (sheet_of sheet))
       → section_left (reply_of t) after ≡ section_by (below q (not (b && all_right ms)) (passes (sheet_of sheet))) c ms
   unfolding open_refusals
-  by_sheet (refused n) b e =
-      let some = (lines_numbered sheet (not (call_right (length ms) c)) (sheet_of sheet) e).0 in
-      refused_is n 0 some (ap (λ (y : Tally). tally_all o.movement y ms) (opened.start ∙ ap start_by e) ∙ stands o.movement n ms some)
-  by_sheet (passes h) false e =
-      let some : ◌≡◌ {A = ℕ} 14 0 → ⊥ = λ z. omega (arith, z) in
-      refused_is 14 0 some (ap (λ (y : Tally). tally_all o.movement y ms) (opened.start ∙ ap start_by e) ∙ stands o.movement 14 ms some)
-  by_sheet (passes h) true e =
-      let start = opened.start ∙ ap start_by e in
-      by_right (all_right ms) refl (opened.movement (ap (λ (y : Tally). y.number) start)) start
+  by_sheet (refused n) b none e = absurd ((lines_numbered sheet (not (call_right (length ms) c)) (sheet_of sheet) e).0 (sym none))
+  by_sheet (passes h) false none e = absurd (omega (arith, none))
+  by_sheet (passes h) true none e =
+      let right = by_right (all_right ms) refl (tallies x ms (pos 0) (pos 0) 0) in
+      right ∙ (λ i. section_by (cond (not (all_right ms)) (refused 14) (passes (opened.movement.0 i))) (opened.movement.1 i) ms)
 
-  section_by_lem : section_left (reply_of t) after ≡ section_leaves sheet c ms
+  -- What the code comes to is what a section leaves.
+  pub section_is : section_left (reply_of t) after ≡ section_leaves sheet c ms
   unfolding section_leaves section_refusals open_refusals
-  section_by_lem =
-      by_sheet (first_of (sheet_refusals sheet) (sheet_of sheet)) (call_right (length ms) c) (lines_are sheet (not (call_right (length ms) c)))
+  section_is =
+      let lines = lines_are sheet (not (call_right (length ms) c)) in
+      by_sheet (first_of (sheet_refusals sheet) (sheet_of sheet)) (call_right (length ms) c)
+      (ap (λ (t : Tally). t.number) opened.start ∙ ap (λ (q : Answer Sheet). (start_by q).number) lines) lines
       ∙ ap (λ (q : Answer Sheet). section_by q c ms) (sym (lines_are sheet (not (call_right (length ms) c && all_right ms))))
-
--- What the code comes to is what a section leaves.
-pub section_is : (sheet : List ℕ) (c : Change) (ms after : List Member) (o : Opening) (t : Tally) → Opened sheet (length ms) c o
-    → t ≡ tally_all o.movement o.start ms → after ≡ settled_after o.movement o.start ms → section_left (reply_of t) after ≡ section_leaves sheet c ms
-section_is sheet c ms after o t opened tally moved = section_by_lem sheet c ms after o t opened tally moved

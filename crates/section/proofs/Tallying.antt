@@ -7,10 +7,13 @@ use mathlib.Core.List.{List, [], ◌∷◌}
 use lib.ListN.{length, get_or, take}
 use lib.Seq.{take_all}
 use borrow.Author.Tests.{eq-eqb, ne_eqb}
+use Rattle.std.specs.Prelude.{eqb, Err}
+use Rattle.refusals.specs.declared.Refused.{Refused}
+use Rattle.refusals.specs.Reasons.{number_of}
+use Rattle.refusals.proofs.ReasonLaws.{reason_numbered}
 use Rattle.section.specs.declared.Member.{Member}
 use Rattle.section.specs.declared.Movement.{Movement}
-use Rattle.section.specs.declared.Tally.{Tally}
-use Rattle.section.specs.Tallies.{GoesOn, tally_of, tally_all, next_all, settled_after}
+use Rattle.section.specs.Tallies.{Tally, tally_meaning, GoesOn, tally_of, tally_all, next_all, settled_after}
 use Rattle.section.proofs.SectionLaws.{fewer, ready_step}
 
 module _ (x : Movement) where
@@ -38,10 +41,10 @@ module _ (x : Movement) where
   tally_to_all i t ms l = ap (tally_all x t) (take_all i ms l)
 
   -- With room for all members there is room for each when it comes.
-  pub ready_to : (i : ℕ) (t : Tally) (ms : List Member) → GoesOn (length ms) x t → i < length ms → GoesOn 1 x (tally_to i t ms)
+  pub ready_to : (i : ℕ) (t : Tally) (ms : List Member) → GoesOn (length ms) t → i < length ms → GoesOn 1 (tally_to i t ms)
   unfolding tally_to tally_all
   ready_to i t [] r l = absurd (omega arith)
-  ready_to zero t (m ∷ ms) r l = fewer x t (suc (length ms)) 1 (omega arith) r
+  ready_to zero t (m ∷ ms) r l = fewer t (suc (length ms)) 1 (omega arith) r
   ready_to (suc i) t (m ∷ ms) r l = ready_to i (tally_of x t m) ms (ready_step x t m (length ms) r) (omega arith)
 
   -- What the members are afterwards: moved where no number was given, and else as they were.
@@ -49,6 +52,7 @@ module _ (x : Movement) where
   unfolding settled_after
   settled_moved t ms e = sym (ap (λ (y : Bool). cond y (next_all x ms) ms) (eq-eqb (tally_all x t ms).number 0 e))
 
-  pub settled_kept : (t : Tally) (ms : List Member) → ((tally_all x t ms).number ≡ 0 → ⊥) → ms ≡ settled_after x t ms
+  pub settled_kept : (t : Tally) (ms : List Member) (r : Refused) → tally_meaning (Err r) ≡ tally_all x t ms → ms ≡ settled_after x t ms
   unfolding settled_after
-  settled_kept t ms ne = sym (ap (λ (y : Bool). cond y (next_all x ms) ms) (ne_eqb (tally_all x t ms).number 0 ne))
+  settled_kept t ms r e =
+      sym (ap (λ (y : Tally). cond (eqb y.number 0) (next_all x ms) ms) (sym e) ∙ rw (ne_eqb (number_of r.reason) 0 (reason_numbered r.reason).0))

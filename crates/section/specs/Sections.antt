@@ -1,7 +1,9 @@
 -- A section (SPEC 15): what a call answers and what every member is after it, over the members as a list; cited by this crate, section_c and
 -- the demands. Definitions only, for any bytes, any numbers and any members; nothing is assumed.
-use Rattle.std.specs.Prelude.{ℕ, ◌+◌, ◌*◌, ◌/◌, Bool, true, not, ◌&&◌, List, [], ◌∷◌, ◌++◌, map, length, ℤ, pos, nat_abs, ◌+ℤ◌, ◌*ℤ◌}
+use Rattle.std.specs.Prelude.{ℕ, ◌+◌, ◌*◌, ◌/◌, ◌≡◌, Bool, true, not, ◌&&◌, List, [], ◌∷◌, ◌++◌, map, length, ℤ, pos, nat_abs, ◌+ℤ◌, ◌*ℤ◌, Result, Ok, Err}
 use Rattle.refusals.specs.Table.{Refusal, refusal, Answer, passes, refused, first_of}
+use Rattle.refusals.specs.declared.Refused.{Refused}
+use Rattle.refusals.specs.Reasons.{number_of}
 use Rattle.units.specs.Kinds.{nano, tenths, curvature}
 use Rattle.units.specs.Signs.{is_neg, with_sign}
 use Rattle.bits.specs.Field.{within}
@@ -17,7 +19,7 @@ use Rattle.rod.specs.Steps.{advance_of, step_refusals}
 use Rattle.judge.specs.Standing.{holder_refusals}
 use Rattle.section.specs.declared.Member.{Member}
 use Rattle.section.specs.declared.Change.{Change}
-use Rattle.section.specs.declared.SectionReply.{SectionReply}
+use Rattle.section.specs.declared.Forces.{Forces}
 
 -- SPEC 15.3: a change of mean strain and of curvature with a new temperature, from any numbers.
 abbrev pub change_of : (mean curvature temperature : ℤ) → Change
@@ -37,6 +39,11 @@ all_right (m ∷ members) = member_right m && all_right members
 -- SPEC 15.2, 15.3: so many members may be tied to one plate, and the changes of mean strain and of curvature are in their ranges.
 unfoldable pub call_right : (members : ℕ) → Change → Bool
 call_right members c = within 1 most_rods members && around most_change c.mean.0 && around most_curvature c.curvature.0
+
+-- SPEC 15.3: changes in their ranges.
+pub record ChangeRight (c : Change) : Type 0 where
+  pub mean : around most_change c.mean.0 ≡ true
+  pub curvature : around most_curvature c.curvature.0 ≡ true
 
 -- SPEC 8.2, 15.4: the lines of the sheet, and below them 14.
 unfoldable pub section_refusals : (sheet : List ℕ) → Change → List Member → List Refusal
@@ -116,6 +123,18 @@ sum [] = pos 0
 sum (z ∷ rest) = z +ℤ sum rest
 
 -- ---- What a call leaves
+
+-- SPEC 15.6: what a section answers: number and place, force in 10⁻³ N and moment in 10⁻³ N mm.
+pub record SectionReply : Type 0 where
+  pub number : ℕ
+  pub place : ℕ
+  pub force : ℤ
+  pub moment : ℤ
+
+-- SPEC 15.6: what a result of the code stands for; force and moment are 0 where it is a refusal.
+abbrev pub reply_meaning : Result Forces Refused → SectionReply
+reply_meaning (Ok f) = record { number = 0; place = 0; force = f.force; moment = f.moment }
+reply_meaning (Err r) = record { number = number_of r.reason; place = r.place; force = pos 0; moment = pos 0 }
 
 -- SPEC 15.6: number, place, force, moment, and every member.
 pub record SectionLeft : Type 0 where

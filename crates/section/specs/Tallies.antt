@@ -1,22 +1,36 @@
 -- How the code comes to what a section leaves: a tally over the members, one after another, and each member's next (SPEC 15.7), cited by
 -- this crate's contracts; definitions only, nothing is assumed. proofs/SectionLaws shows that this is `section_leaves`.
-use Rattle.std.specs.Prelude.{ℕ, ◌+◌, ◌*◌, ◌≤◌, ◌≡◌, Bool, true, false, not, ◌&&◌, cond, List, [], ◌∷◌, ◌++◌, map, ℤ, pos, nat_abs, ◌+ℤ◌, eqb}
+use Rattle.std.specs.Prelude.{ℕ, ◌+◌, ◌*◌, ◌≤◌, ◌≡◌, Bool, false, not, ◌&&◌, cond, List, [], ◌∷◌, ◌++◌, map, ℤ, pos, nat_abs, ◌+ℤ◌, eqb, Result, Ok, Err, IfOk}
+use Rattle.refusals.specs.declared.Reason.{Reason}
+use Rattle.refusals.specs.declared.Refused.{Refused}
+use Rattle.refusals.specs.Reasons.{number_of}
 use Rattle.refusals.specs.Table.{Refusal, refusal, Answer, passes, refused, first_of}
-use Rattle.ranges.specs.Ranges.{around, most_change, most_rods, most_curvature}
+use Rattle.ranges.specs.Ranges.{most_rods}
 use Rattle.sheet.specs.Sheets.{sheet_refusals, sheet_of}
-use Rattle.sheet.specs.Sound.{SheetSound}
 use Rattle.rod.specs.declared.step.Advance.{Advance}
 use Rattle.section.specs.declared.Member.{Member}
 use Rattle.section.specs.declared.Change.{Change}
 use Rattle.section.specs.declared.Movement.{Movement}
-use Rattle.section.specs.declared.Tally.{Tally}
-use Rattle.section.specs.declared.Opening.{Opening}
-use Rattle.section.specs.declared.SectionReply.{SectionReply}
-use Rattle.section.specs.Sections.{call_right, member_right, member_answer, force_of, moment_of, with_state, most_force, most_moment}
+use Rattle.section.specs.declared.Sums.{Sums}
+pub use Rattle.section.specs.Sections.{ChangeRight}
+use Rattle.section.specs.Sections.{SectionReply, call_right, member_right, member_answer, force_of, moment_of, with_state, most_force, most_moment}
+
+-- SPEC 15.7: a tally: number and place of a refusal, or force and moment so far, and how many members there were.
+pub record Tally : Type 0 where
+  pub number : ℕ
+  pub place : ℕ
+  pub force : ℤ
+  pub moment : ℤ
+  pub seen : ℕ
 
 -- SPEC 15.7: a tally without force and moment: a refusal with its place, or, with 0 and 0, where no rod is looked at yet.
 abbrev pub bare_tally : (number place : ℕ) → Tally
 bare_tally number place = record { number = number; place = place; force = pos 0; moment = pos 0; seen = 0 }
+
+-- SPEC 15.7: the tally that a result of the code stands for: sums, or a refusal.
+abbrev pub tally_meaning : Result Sums Refused → Tally
+tally_meaning (Ok sums) = record { number = 0; place = 0; force = sums.force; moment = sums.moment; seen = sums.seen }
+tally_meaning (Err r) = bare_tally (number_of r.reason) r.place
 
 -- SPEC 15.7: one rod more, which has this stress: its parts are added.
 abbrev pub added_to : Tally → Member → (stress : ℤ) → Tally
@@ -37,7 +51,7 @@ unfoldable pub tally_of : Movement → Tally → Member → Tally
 tally_of x t m =
     cond (sections_own t) t
     (cond (not (member_right m)) (bare_tally 14 0)
-    (cond (eqb t.number 0) (counted t m (member_answer x.sheet x.change m)) t))
+    (cond (eqb t.number 0) (counted t m (member_answer x.material.sheet x.change m)) t))
 
 -- SPEC 15.7: the same over all members, one after another.
 unfoldable pub tally_all : Movement → Tally → List Member → Tally
@@ -51,7 +65,7 @@ next_by m (refused number) = m
 
 -- SPEC 15.7: a member after the call,
 unfoldable pub next_of : Movement → Member → Member
-next_of x m = cond (member_right m) (next_by m (member_answer x.sheet x.change m)) m
+next_of x m = cond (member_right m) (next_by m (member_answer x.material.sheet x.change m)) m
 
 -- and all of them.
 abbrev pub next_all : Movement → List Member → List Member
@@ -67,16 +81,6 @@ reply_of t = record { number = t.number; place = t.place; force = t.force; momen
 
 -- ---- What the steps ask
 
--- SPEC 15.3: changes in their ranges.
-pub record ChangeRight (c : Change) : Type 0 where
-  pub mean : around most_change c.mean.0 ≡ true
-  pub curvature : around most_curvature c.curvature.0 ≡ true
-
--- SPEC 15.7: a sheet that passes, and such changes.
-pub record MovementRight (x : Movement) : Type 0 where
-  pub sound : SheetSound x.sheet
-  pub change : ChangeRight x.change
-
 -- SPEC 15.7: room in a tally for so many rods more: with 32 of them no sum leaves 64 bits.
 pub record Room (rods : ℕ) (t : Tally) : Type 0 where
   pub seen : t.seen + rods ≤ most_rods
@@ -84,8 +88,8 @@ pub record Room (rods : ℕ) (t : Tally) : Type 0 where
   pub moment : nat_abs t.moment ≤ t.seen * most_moment
 
 -- SPEC 15.7: what holds of a tally that no number of the section's own has ended.
-abbrev pub GoesOn : (rods : ℕ) → Movement → Tally → Type 0
-GoesOn rods x t = sections_own t ≡ false → MovementRight x × Room rods t
+abbrev pub GoesOn : (rods : ℕ) → Tally → Type 0
+GoesOn rods t = sections_own t ≡ false → Room rods t
 
 -- SPEC 15.7: the lines that are decided before the first member.
 unfoldable pub open_refusals : (sheet : List ℕ) → (members : ℕ) → Change → List Refusal
@@ -96,8 +100,13 @@ abbrev pub start_by : {A : Type 0} → Answer A → Tally
 start_by (passes _) = bare_tally 0 0
 start_by (refused number) = bare_tally number 0
 
+-- SPEC 15.7: the tally that the code has before the first member, where it goes on to the members or doesn't.
+abbrev pub start_of : Result Movement Reason → Tally
+start_of (Ok x) = bare_tally 0 0
+start_of (Err reason) = bare_tally (number_of reason) 0
+
 -- SPEC 15.7: what the code begins with.
-pub record Opened (sheet : List ℕ) (members : ℕ) (c : Change) (o : Opening) : Type 0 where
-  pub start : o.start ≡ start_by (first_of (open_refusals sheet members c) (sheet_of sheet))
-  pub movement : o.start.number ≡ 0 → o.movement ≡ record { sheet = sheet_of sheet; change = c }
-  pub ready : GoesOn members o.movement o.start
+pub record Opened (sheet : List ℕ) (members : ℕ) (c : Change) (o : Result Movement Reason) : Type 0 where
+  pub start : start_of o ≡ start_by (first_of (open_refusals sheet members c) (sheet_of sheet))
+  pub movement : IfOk o (λ x. (x.material.sheet ≡ sheet_of sheet) × (x.change ≡ c))
+  pub ready : IfOk o (λ _. GoesOn members (bare_tally 0 0))

@@ -1,11 +1,13 @@
 // A section (SPEC 15): rods of one sheet tied to one plate, moved together or not at all.
 #![tactic(auto)]
 
+ghost use Rattle.section.specs.Sections.{ChangeRight};
+
 pub mod entry; // entry.rt: the entry
 mod each; // each.rt: one rod of a section, by value
 mod together; // together.rt: all rods, decided first and then stored
 
-use sheet::Sheet;
+use sheet::material::Material;
 use units::{Curvature, Nano, Tenths};
 
 // A rod of a section: its area in mm², its offset in mm, and its state. Firmware lends these, so they are laid out as C has them.
@@ -25,35 +27,25 @@ pub struct Change {
     pub temperature: Tenths,
 }
 
-// What every rod of a call is given: the sheet as read, and the change.
+// What every rod of a call is given: the material, and the change.
 #[derive(Clone, Copy)]
 pub struct Movement {
-    pub sheet: Sheet,
+    pub material: Material,
     pub change: Change,
+    pub ghost right: { ChangeRight change },
 }
 
-// What the rods looked at so far came to: number and place of a refusal, or force and moment, and how many rods there were.
+// What the rods looked at so far add up to, and how many there were.
 #[derive(Clone, Copy)]
-pub struct Tally {
-    pub number: u64,
-    pub place: u64,
+pub struct Sums {
     pub force: i64,
     pub moment: i64,
-    pub seen: u64,
+    pub seen: usize,
 }
 
-// What is decided before the first rod.
+// What a section that moves answers: force in 10⁻³ N and moment in 10⁻³ N mm.
 #[derive(Clone, Copy)]
-pub struct Opening {
-    pub movement: Movement,
-    pub start: Tally,
-}
-
-// What a section answers: number and place, force in 10⁻³ N and moment in 10⁻³ N mm.
-#[derive(Clone, Copy)]
-pub struct SectionReply {
-    pub number: u64,
-    pub place: u64,
+pub struct Forces {
     pub force: i64,
     pub moment: i64,
 }

@@ -2,21 +2,11 @@
 // runs it would make them slower (DECISIONS.md, Speed).
 #![tactic(auto)]
 
-ghost use Rattle.std.specs.Prelude.{◌≡◌, ◌≤◌, ◌<◌};
-ghost use Rattle.refusals.specs.Table.{in_one_number};
-ghost use Rattle.ranges.specs.Ranges.{most_rods};
+ghost use Rattle.std.specs.Prelude.{◌≡◌};
 ghost use Rattle.section.specs.Sections.{change_of, section_leaves};
 ghost use Rattle.section_c.specs.Answers.{section_seen, section_seen_of};
 
-use section::{Member, SectionReply};
-
-// Number and place as one number.
-fn pack(reply: SectionReply) -> u64
-    requires { (reply.number < 256) × (reply.place ≤ most_rods) }
-    ensures { result ≡ in_one_number reply.number reply.place }
-{
-    reply.number + 256 * reply.place
-}
+use section::Member;
 
 // The rods of a section together (SPEC 15).
 #[unsafe(no_mangle)]
@@ -31,8 +21,16 @@ pub extern "C" fn tie_rod_section(
 ) -> u64
     ensures { section_seen result force.new moment.new members.new ≡ section_seen_of (section_leaves sheet.now (change_of mean curvature temperature) members.old) }
 {
-    let reply = section::entry::section(sheet, members, mean, curvature, temperature);
-    *force = reply.force;
-    *moment = reply.moment;
-    pack(reply)
+    match section::entry::section(sheet, members, mean, curvature, temperature) {
+        Ok(forces) => {
+            *force = forces.force;
+            *moment = forces.moment;
+            0
+        }
+        Err(refused) => {
+            *force = 0;
+            *moment = 0;
+            refused.in_one_number()
+        }
+    }
 }

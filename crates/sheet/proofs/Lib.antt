@@ -1,6 +1,6 @@
 pub mod SheetLaws
-pub mod AnswerCases
 pub mod Passed
+pub mod TangentLaws
 pub mod SideReadable
 pub mod ThermalLaws
 pub mod SheetCoefficients

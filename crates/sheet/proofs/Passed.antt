@@ -22,13 +22,7 @@ use Rattle.bits.specs.Field.{within}
 use Rattle.sheet.specs.declared.Sheet.{Sheet}
 use Rattle.sheet.specs.Sheets.{law_in, tension_count, compression_count, point_count, modulus_in, expansion_in, reference_in, tension_yield, compression_yield, header_zero_bits, segment_length_in, segment_tangent_in, all_below, most_tension, compression_of, expansion_right, compression_yield_right, length_right, tangent_right, sheet_counts_right, constants_right, yields_right, header_right, lengths_right, tangents_right, both_sides, segment_in, point_in, listed, placed, points_in, point_fields_right, points_right, sheet_field_refusals, sheet_refusals, side_in, sheet_of}
 use Rattle.sheet.specs.Sound.{SideSound, SheetSound}
-use Rattle.sheet.proofs.SheetLaws.{few_segments, length_listed, placed_first}
-
--- The two bounds that a test within them shows.
-within_bounds : (least most x : ℕ) → within least most x ≡ true → (least ≤ x) × (x ≤ most)
-within_bounds least most x e =
-    let both = both_hold (leb least x) (leb x most) e in
-    (leb-true least x both.0, leb-true x most both.1)
+use Rattle.sheet.proofs.SheetLaws.{few_segments, within_bounds, length_listed, placed_first}
 
 all_below_holds : (test : ℕ → Bool) (n i : ℕ) → all_below test n ≡ true → i < n → test i ≡ true
 unfolding all_below
@@ -77,7 +71,7 @@ unfolding placed
 placed_all most empty at first n h =
     rw (length-append (listed at first n) (replicate (most - length (listed at first n)) empty), length-replicate (most - length (listed at first n)) empty, length_listed at first n) (omega arith)
 
-tangent_is : (s : List ℕ) (yield first n i : ℕ) → i < n → tangent_of (side_in s yield first n) i ≡ segment_tangent_in s (first + i)
+pub tangent_is : (s : List ℕ) (yield first n i : ℕ) → i < n → tangent_of (side_in s yield first n) i ≡ segment_tangent_in s (first + i)
 tangent_is s yield first n i h = ap (λ (g : Segment). g.tangent.0) (placed_at most_segments flat flat (segment_in s) first n i h)
 
 length_is : (s : List ℕ) (yield first n i : ℕ) → i < n → length_at (side_in s yield first n) i ≡ segment_length_in s (first + i)
@@ -141,7 +135,7 @@ coefficients_usable s few single points rise =
       count_fits = (within_bounds 0 most_points n few).1;
       places = placed_all most_points no_point (point_in s) 0 n (within_bounds 0 most_points n few).1;
       single_most = single_most n (expansion_in s) single;
-      points_right_lem = λ i h.
+      points_right = λ i h.
           let fields = all_below_holds (point_fields_right s) n i points h in
           ap point_right (rw (zero-add i) at (placed_at most_points no_point no_place (point_in s) 0 n i h)) ∙ (both_hold (point_right (point_in s i)) _ fields).0;
       empty_behind = placed_behind most_points no_point no_place (point_in s) 0 n;

@@ -1,30 +1,28 @@
--- Laws of the sheet's conditions: the bounds by which the reader tests a field say the same as SPEC 3.7 and 3.8; and of what it lists.
-use Prim.Native.Nat.{ℕ, zero, suc, ◌+◌, ◌-◌, ◌*◌, ◌≤◌, ◌<◌}
+-- Laws of the sheet's conditions, of what its reader lists, and of what its parts answer.
+use Prim.Native.Nat.{ℕ, zero, suc, ◌+◌, ◌-◌, ◌≤◌, ◌<◌}
 use mathlib.Core.Path.{◌≡◌, refl, sym, ap, ◌∙◌}
-use mathlib.Core.Bool.{Bool, true, false, ◌&&◌, ◌||◌, and-false, cond}
+use mathlib.Core.Bool.{Bool, true, false, ◌&&◌, and-false}
 use mathlib.Core.List.{List, [], ◌∷◌, ◌++◌}
 use native.Mathlib.Decide.{dec_lt}
 use native.Mathlib.Omega.{arith}
-use native.Mathlib.Nat.{le_of_lt}
+use native.Mathlib.Nat.{zero-add}
 use native.Mathlib.Numerals.{add-one}
 use lib.ListN.{length, take, replicate, set, length-append}
-use borrow.Author.Tests.{leb-true, ltb-true, le-leb}
-use lib.Dec.{eqb, ltb, leb}
+use borrow.Author.Tests.{leb-true}
+use lib.Dec.{eqb, leb}
 use lib.Seq.{set_at, take_at, append_snoc}
+use Rattle.std.specs.Prelude.{Result, Ok, Err}
+use Rattle.std.specs.Result.{IsErrAnd}
+use Rattle.std.proofs.lemmas.Result.{err_from_is_err_and}
+use Rattle.refusals.specs.declared.Reason.{Reason}
+use Rattle.refusals.specs.declared.Reason.TheVariants.{SheetField}
 use Rattle.refusals.proofs.FirstLaws.{both_hold, three_hold}
-use Rattle.ranges.specs.Ranges.{most_expansion, most_yield, most_length}
-use Rattle.law.specs.declared.Law.{Law}
-use Rattle.law.specs.declared.Law.TheVariants.{IsotropicLine, IsotropicCurve, Kinematic, Asymmetric}
-use Rattle.expansion.specs.Points.{most_points, no_point}
-use Rattle.bits.specs.Field.{within, unsigned_if}
-use Rattle.bits.specs.declared.Unsigned.{Unsigned}
+use Rattle.expansion.specs.Points.{most_points}
+use Rattle.bits.specs.Field.{within}
 use Rattle.bits.proofs.FieldLaws.{field_at_below}
-use Rattle.bits.proofs.RangeLaws.{within_itself}
 use Rattle.sheet.specs.SheetLayout.{header_layout, most_points_counted}
-use Rattle.sheet.specs.Sheets.{law_in, tension_count, compression_count, point_count, sheet_counts_right, constants_right, yields_right, header_right, most_tension, compression_of, expansion_right, compression_yield_right, length_right, segment_length_in, all_below, modulus_in, segment_tangent_in, tangent_right, listed, placed, segments_in, points_in, lengths_right, points_right}
-use Rattle.sheet.specs.declared.SegmentsRead.{SegmentsRead}
-use Rattle.sheet.specs.declared.PointsRead.{PointsRead}
-use Rattle.sheet.specs.ReaderAnswers.{least_length, segments_read, points_read}
+use Rattle.sheet.specs.Sheets.{law_in, tension_count, compression_count, point_count, sheet_counts_right, constants_right, yields_right, header_right, most_tension, compression_of, all_below, listed, placed}
+use Rattle.sheet.specs.ReaderAnswers.{right_or_field}
 
 -- The counts of segments are of three bits,
 pub few_segments : (s : List ℕ) → (tension_count s ≤ 7) × (compression_count s ≤ 7)
@@ -34,55 +32,19 @@ few_segments s = (omega (arith, field_at_below header_layout s 1), omega (arith,
 pub few_points : (s : List ℕ) → point_count s ≤ most_points_counted
 few_points s = omega (arith, field_at_below header_layout s 9)
 
+-- The two bounds that a test within them shows.
+pub within_bounds : (least most x : ℕ) → within least most x ≡ true → (least ≤ x) × (x ≤ most)
+within_bounds least most x e =
+    let both = both_hold (leb least x) (leb x most) e in
+    (leb-true least x both.0, leb-true x most both.1)
+
 -- A header that is right has no more points than there are places.
 pub points_fit : (s : List ℕ) → header_right s ≡ true → point_count s ≤ most_points
 unfolding header_right sheet_counts_right
 points_fit s right =
     let counts = (three_hold (sheet_counts_right s) (constants_right s (point_count s)) (yields_right s (law_in s)) right).0 in
     let points = (three_hold (within 1 (most_tension (law_in s)) (tension_count s)) (eqb (compression_count s) (compression_of (law_in s))) (within 0 most_points (point_count s)) counts).2 in
-    leb-true (point_count s) most_points (both_hold (leb 0 (point_count s)) (leb (point_count s) most_points) points).1
-
--- What a reader answers under its bounds, where these are the rule.
-pub read_under : {answer : Unsigned} {bounds right : Bool} (x : ℕ) → bounds ≡ right → answer ≡ unsigned_if bounds x → unsigned_if right x ≡ answer
-read_under x same e = ap (λ (t : Bool). unsigned_if t x) (sym same) ∙ sym e
-
--- A range from 0 on has one bound.
-pub within_from_zero : (most x : ℕ) → within 0 most x ≡ leb x most
-within_from_zero most x = ap (λ (t : Bool). t && leb x most) (le-leb 0 x (omega arith))
-
-pub expansion_bounds : (points a : ℕ) → within 0 (cond (eqb points 0) most_expansion 0) a ≡ expansion_right points a
-expansion_bounds points a = by_count (eqb points 0)
-  where
-    by_count : (t : Bool) → within 0 (cond t most_expansion 0) a ≡ cond t (within 0 most_expansion a) (eqb a 0)
-    by_count true = refl
-    by_count false = within_itself 0 a
-
-pub compression_sides : (law : Law) → compression_of law ≤ 1
-compression_sides IsotropicLine = omega arith
-compression_sides IsotropicCurve = omega arith
-compression_sides Kinematic = omega arith
-compression_sides Asymmetric = omega arith
-
-pub compression_yield_bounds : (law : Law) (y : ℕ) → within (compression_of law) (compression_of law * most_yield) y ≡ compression_yield_right law y
-compression_yield_bounds IsotropicLine y = within_itself 0 y
-compression_yield_bounds IsotropicCurve y = within_itself 0 y
-compression_yield_bounds Kinematic y = within_itself 0 y
-compression_yield_bounds Asymmetric y = refl
-
-pub least_length_small : (i count : ℕ) → least_length i count ≤ 1
-least_length_small i count = by_place (eqb (i + 1) count)
-  where
-    by_place : (t : Bool) → cond t 0 1 ≤ 1
-    by_place true = omega arith
-    by_place false = omega arith
-
-pub length_bounds : (s : List ℕ) (first count i : ℕ)
-    → within (least_length i count) (least_length i count * most_length) (segment_length_in s (first + i)) ≡ length_right s first count i
-length_bounds s first count i = by_place (eqb (i + 1) count)
-  where
-    by_place : (t : Bool) → within (cond t 0 1) (cond t 0 1 * most_length) (segment_length_in s (first + i)) ≡ cond t (eqb (segment_length_in s (first + i)) 0) (within 1 most_length (segment_length_in s (first + i)))
-    by_place true = within_itself 0 (segment_length_in s (first + i))
-    by_place false = refl
+    (within_bounds 0 most_points (point_count s) points).1
 
 -- A test that holds below i and at i holds below i + 1,
 pub all_below_more : (test : ℕ → Bool) (i : ℕ) → all_below test i ≡ true → test i ≡ true → all_below test (i + 1) ≡ true
@@ -108,52 +70,40 @@ length_listed at first zero = refl
 length_listed at first (suc n) = length-append (listed at first n) (at (first + n) ∷ []) ∙ rw (length_listed at first n) (omega arith)
 
 -- and the next one goes into the first free place.
-pub placed_more : {A : Type 0} (most : ℕ) (empty : A) (at : ℕ → A) (first i : ℕ) → i < most
-    → set (placed most empty (listed at first i)) i (at (first + i)) ≡ placed most empty (listed at first (i + 1))
+pub placed_more : {A : Type 0} (most : ℕ) (empty : A) (at : ℕ → A) (i : ℕ) → i < most
+    → set (placed most empty (listed at 0 i)) i (at i) ≡ placed most empty (listed at 0 (i + 1))
 unfolding placed listed
-placed_more most empty at first i h =
-    let l = listed at first i in
-    let x = at (first + i) in
-    let free : most - length l ≡ suc (most - 1 - i) = rw (length_listed at first i) (omega arith) in
-    let left : most - length (l ++ (x ∷ [])) ≡ most - 1 - i = rw (length-append l (x ∷ []), length_listed at first i) (omega arith) in
-    rw (add-one i, free, left, set_at l empty (replicate (most - 1 - i) empty) x i (length_listed at first i)) (sym (append_snoc l x (replicate (most - 1 - i) empty)))
+placed_more most empty at i h =
+    let l = listed at 0 i in
+    let x = at i in
+    let free : most - length l ≡ suc (most - 1 - i) = rw (length_listed at 0 i) (omega arith) in
+    let left : most - length (l ++ (x ∷ [])) ≡ most - 1 - i = rw (length-append l (x ∷ []), length_listed at 0 i) (omega arith) in
+    rw (add-one i, zero-add i, free, left, set_at l empty (replicate (most - 1 - i) empty) x i (length_listed at 0 i)) (sym (append_snoc l x (replicate (most - 1 - i) empty)))
+
+-- Things from number `first` on are listed as those from 0 on that stand so much further.
+pub listed_from : {A : Type 0} (at : ℕ → A) (first n : ℕ) → listed (λ i. at (first + i)) 0 n ≡ listed at first n
+unfolding listed
+listed_from at first zero = refl
+listed_from at first (suc n) = rw (listed_from at first n, zero-add n)
 
 -- The first places hold what was listed.
 pub placed_first : {A : Type 0} (most : ℕ) (empty : A) (at : ℕ → A) (first n : ℕ) → take n (placed most empty (listed at first n)) ≡ listed at first n
 unfolding placed
 placed_first most empty at first n = take_at (listed at first n) (replicate (most - length (listed at first n)) empty) n (length_listed at first n)
 
--- A tangent below Young's modulus keeps its rule exactly where it isn't above the one before, the modulus standing before the first.
-pub tangent_rule : (s : List ℕ) (first i : ℕ) → ltb (segment_tangent_in s (first + i)) (modulus_in s) ≡ true
-    → tangent_right s first i ≡ leb (segment_tangent_in s (first + i)) (cond (eqb i 0) (modulus_in s) (segment_tangent_in s (first + i - 1)))
-tangent_rule s first i below = rw below (by_place (eqb i 0))
-  where
-    t : ℕ
-    t = segment_tangent_in s (first + i)
+-- What a part of the reader answered tells whether it was right, and what was read.
+pub read_tells : {A : Type 0} (right : Bool) (read : A) {x : A} → Ok x ≡ right_or_field right read → (right ≡ true) × (x ≡ read)
+read_tells true read e = (refl, cc)
+read_tells false read e = absurd (cc)
 
-    by_place : (b : Bool) → b || leb t (segment_tangent_in s (first + i - 1)) ≡ leb t (cond b (modulus_in s) (segment_tangent_in s (first + i - 1)))
-    by_place true = sym (le-leb t (modulus_in s) (le_of_lt (ltb-true t (modulus_in s) below)))
-    by_place false = refl
+pub refusal_tells : {A : Type 0} (right : Bool) (read : A) {r : Reason} → Err r ≡ right_or_field right read → (right ≡ false) × (r ≡ SheetField)
+refusal_tells true read e = absurd (cc)
+refusal_tells false read e = (refl, cc)
 
--- A test tells which of two answers was given, where it holds of the one and not of the other.
-told_by_lem : {A : Type 0} (right : A → Bool) (x y : A) (t : Bool) → right x ≡ true → right y ≡ false → right (cond t x y) ≡ t
-told_by_lem right x y true h k = h
-told_by_lem right x y false h k = k
-
--- What was read of a side's segments: whether their lengths are right, and where they are, the segments.
-pub segments_right : (s : List ℕ) (first count : ℕ) → (segments_read s first count).right ≡ lengths_right s first count
-unfolding segments_read
-segments_right s first count = told_by_lem (λ (r : SegmentsRead). r.right) _ _ (lengths_right s first count) refl refl
-
-pub segments_read_lem : (s : List ℕ) (first count : ℕ) → lengths_right s first count ≡ true → (segments_read s first count).segments ≡ segments_in s first count
-unfolding segments_read
-segments_read_lem s first count h = rw h
-
--- The same of the points.
-pub points_right_lem : (s : List ℕ) → (points_read s).right ≡ points_right s
-unfolding points_read
-points_right_lem s = told_by_lem (λ (r : PointsRead). r.right) _ _ (points_right s) refl refl
-
-pub points_read_lem : (s : List ℕ) → points_right s ≡ true → (points_read s).points ≡ placed most_points no_point (points_in s)
-unfolding points_read
-points_read_lem s h = rw h
+-- Where a `?` hands a part's refusal on, that part wasn't right.
+pub refusal_handed_on : {A B : Type 0} (right : Bool) (read : A) {r : Reason} (answer : Result B Reason) → Err r ≡ right_or_field right read
+    → IsErrAnd answer (λ y. y ≡ r) → (right ≡ false) × (answer ≡ Err SheetField)
+refusal_handed_on right read answer e handed =
+    let told = refusal_tells right read e in
+    let on = err_from_is_err_and answer handed in
+    (told.0, on.1 ∙ ap Err (on.2 ∙ told.1))

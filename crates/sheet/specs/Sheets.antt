@@ -1,7 +1,7 @@
 -- The values that a sheet's bytes hold (SPEC 3.7 to 3.9) and 1, 2, 3 and 13 (SPEC 8.2), for any bytes of any length, cited by judge,
 -- tie_rod, rod_log, board and the demands; definitions only, nothing is assumed.
 use Rattle.std.specs.Prelude.{ℕ, zero, suc, ◌+◌, ◌-◌, ◌*◌, Bool, true, not, ◌&&◌, ◌||◌, cond, List, [], ◌∷◌, ◌++◌, length, replicate, ℤ, eqb, leb, ltb}
-use Rattle.refusals.specs.Table.{Refusal, refusal, Answer, numbered}
+use Rattle.refusals.specs.Table.{Refusal, refusal}
 use Rattle.ranges.specs.Ranges.{temperature_right, most_modulus, most_expansion, most_yield, most_length, grains}
 use Rattle.units.specs.Kinds.{tenths, length_of, magnitude, modulus, expansion}
 use Rattle.law.specs.declared.Law.{Law}
@@ -15,9 +15,6 @@ use Rattle.bits.specs.Layout.{field_at, field_from, whole_at, whole_from}
 use Rattle.expansion.specs.declared.Point.{Point}
 use Rattle.expansion.specs.Points.{most_points, no_point, point_right, temperatures_rise}
 use Rattle.sheet.specs.declared.Sheet.{Sheet}
-use Rattle.sheet.specs.declared.SheetRead.{SheetRead}
-use Rattle.sheet.specs.declared.Verdict.{Verdict}
-use Rattle.sheet.specs.declared.Verdict.TheVariants.{Accepted, WrongLength, OutOfRange, WrongTangent, UnorderedPoints}
 use Rattle.sheet.specs.SheetLayout.{header_layout, header_length, segment_layout, segment_at, point_layout, point_at, sheet_length}
 
 -- SPEC 3.7: the ten fields of the header.
@@ -204,15 +201,3 @@ sheet_of s =
       tension = side_in s (tension_yield s) 0 (tension_count s);
       compression = side_in s (compression_yield s) (tension_count s) (compression_count s);
     }
-
--- SPEC 8.8: the number of each verdict on a sheet, 0 where it passes,
-abbrev pub verdict_number : Verdict → ℕ
-verdict_number Accepted = 0
-verdict_number WrongLength = 1
-verdict_number OutOfRange = 2
-verdict_number WrongTangent = 3
-verdict_number UnorderedPoints = 13
-
--- and what the reader's answer stands for: that number, or the sheet.
-abbrev pub sheet_read_meaning : SheetRead → Answer Sheet
-sheet_read_meaning r = numbered (verdict_number r.verdict) r.sheet

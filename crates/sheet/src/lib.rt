@@ -2,25 +2,31 @@
 #![tactic(auto)]
 
 mod layout; // layout.rt: where everything stands in the bytes
+pub mod material; // material.rt: a sheet that passed
 
-ghost use Rattle.std.specs.Prelude.{◌≡◌, ◌+◌, ◌*◌, ◌≤◌, ◌<◌, [], true, cond, nat_abs, eqb};
+ghost use Rattle.std.specs.Prelude.{◌≡◌, ℕ, Bool, ◌+◌, ◌*◌, ◌≤◌, ◌<◌, true, ◌&&◌, cond, eqb};
 ghost use Rattle.refusals.specs.Table.{first_of};
-ghost use Rattle.ranges.specs.Ranges.{temperature_right, most_expansion};
-ghost use Rattle.bits.specs.Field.{unsigned_if, within};
-ghost use Rattle.units.specs.Kinds.{nano};
-ghost use Rattle.expansion.specs.Points.{most_points, no_point};
-ghost use Rattle.curve.specs.Sides.{most_segments, flat};
-ghost use Rattle.sheet.specs.SheetLayout.{segment_at, point_at, most_counted, longest_sheet};
-ghost use Rattle.sheet.specs.Sound.{SheetSound};
-ghost use Rattle.sheet.specs.Thermal.{thermal_of};
-ghost use Rattle.sheet.specs.Sheets.{most_tension, compression_of, segment_count, counted_length, segment_length_in, modulus_in, segment_tangent_in, tangents_right, placed, header_right, sheet_field_refusals, sheet_refusals, sheet_of, sheet_read_meaning};
-ghost use Rattle.sheet.specs.ReaderAnswers.{counts_of, counts_in, constants_in, yields_in, header_in, header_of, least_length, segments_read, point_read, points_read, accepted_as};
+ghost use Rattle.refusals.specs.Reasons.{answer_of};
+ghost use Rattle.ranges.specs.Ranges.{most_expansion};
+ghost use Rattle.bits.specs.Field.{within};
+ghost use Rattle.expansion.specs.Points.{most_points};
+ghost use Rattle.curve.specs.Sides.{most_segments};
+ghost use Rattle.sheet.specs.SheetLayout.{most_counted, most_points_counted, sheet_length, longest_sheet};
+ghost use Rattle.sheet.specs.Sheets.{most_tension, segment_count, counted_length, placed, length_right, segment_in, all_below, listed, length_wrong, sheet_field_refusals, sheet_refusals, sheet_of};
+ghost use Rattle.sheet.specs.ReaderAnswers.{right_or_field, ReadsEach, counts_of, counts_in, constants_in, yields_in, header_in, segments_read, point_read, points_read, side_falls, values_in};
 
-use bits::{Signed, Unsigned};
+use bits::Bounds;
 use curve::{Segment, Side};
 use expansion::{Coefficients, Point};
 use law::Law;
-use units::{Expansion, Length, Magnitude, Modulus, Nano, Tenths};
+use refusals::Reason;
+use units::{Expansion, Length, Magnitude, Modulus, Tenths};
+
+// How many points a sheet may have.
+const POINTS: Bounds<u64> = Bounds {
+    least: 0,
+    most: expansion::MOST_POINTS as u64,
+};
 
 // What a sheet that passes says: yields in grains, lengths in nano, tangents and Young's modulus in MPa.
 #[derive(Clone, Copy)]
@@ -33,23 +39,6 @@ pub struct Sheet {
     pub compression: Side,
 }
 
-// What reading a sheet comes to.
-#[derive(Clone, Copy)]
-pub enum Verdict {
-    Accepted,
-    WrongLength,
-    OutOfRange,
-    WrongTangent,
-    UnorderedPoints,
-}
-
-// What reading a sheet answers: the sheet says something only where the verdict is that it was accepted.
-#[derive(Clone, Copy)]
-pub struct SheetRead {
-    pub verdict: Verdict,
-    pub sheet: Sheet,
-}
-
 // The law, how many segments each side has, and how many points there are.
 #[derive(Clone, Copy)]
 struct Counts {
@@ -57,12 +46,6 @@ struct Counts {
     tension: usize,
     compression: usize,
     points: usize,
-}
-
-#[derive(Clone, Copy)]
-enum CountsRead {
-    Right(Counts),
-    OutOfRange,
 }
 
 // Young's modulus, the single expansion and the reference temperature.
@@ -73,23 +56,11 @@ struct Constants {
     reference: Tenths,
 }
 
-#[derive(Clone, Copy)]
-enum ConstantsRead {
-    Right(Constants),
-    OutOfRange,
-}
-
 // The yield stress of each side.
 #[derive(Clone, Copy)]
 struct Yields {
     tension: Magnitude,
     compression: Magnitude,
-}
-
-#[derive(Clone, Copy)]
-enum YieldsRead {
-    Right(Yields),
-    OutOfRange,
 }
 
 // All that stands in front of the segments.
@@ -100,138 +71,68 @@ struct Header {
     yields: Yields,
 }
 
-#[derive(Clone, Copy)]
-enum HeaderRead {
-    Right(Header),
-    OutOfRange,
-}
-
-// The segments of a side, and whether their lengths are right.
-#[derive(Clone, Copy)]
-struct SegmentsRead {
-    segments: [Segment; curve::MOST_SEGMENTS],
-    right: bool,
-}
-
-#[derive(Clone, Copy)]
-enum PointRead {
-    Right(Point),
-    OutOfRange,
-}
-
-// The points, and whether their fields are right.
-#[derive(Clone, Copy)]
-struct PointsRead {
-    points: [Point; expansion::MOST_POINTS],
-    right: bool,
-}
-
-fn most_tension(law: Law) -> u64
-    ensures { result ≡ most_tension law }
+// How many segments a law may have in tension.
+fn tension_bounds(law: Law) -> Bounds<u64>
+    ensures least { result.least ≡ 1 }
+    ensures most { result.most ≡ most_tension law }
 {
-    match law {
-        Law::IsotropicLine => 1,
+    let most = match law {
         Law::IsotropicCurve => curve::MOST_SEGMENTS as u64,
-        Law::Kinematic => 1,
-        Law::Asymmetric => 1,
-    }
+        Law::IsotropicLine | Law::Kinematic | Law::Asymmetric => 1,
+    };
+    Bounds { least: 1, most }
 }
 
-fn compression_of(law: Law) -> u64
-    ensures { result ≡ compression_of law }
+// The bounds of a field that is 0 where it isn't used.
+fn bounds_where(used: bool, bounds: Bounds<u64>) -> Bounds<u64>
+    ensures { (x : ℕ) → within result.least result.most x ≡ cond used (within bounds.least bounds.most x) (eqb x 0) }
 {
-    match law {
-        Law::IsotropicLine => 0,
-        Law::IsotropicCurve => 0,
-        Law::Kinematic => 0,
-        Law::Asymmetric => 1,
+    if used {
+        bounds
+    } else {
+        Bounds { least: 0, most: 0 }
     }
 }
 
-fn read_counts(s: &[u8]) -> CountsRead
+#[tactic(auto, using(bits::proofs::FieldLaws::field_below), unfolding(bits::specs::Field::some_if, crate::specs::Sheets::sheet_counts_right))]
+fn read_counts(s: &[u8]) -> Result<Counts, Reason>
     ensures { result ≡ counts_in s.now }
 {
-    let number = bits::read(s, layout::LAW_AT, layout::LAW_WIDTH);
-    let law = Law::of(number);
-    let most = most_tension(law);
-    let Unsigned::Value(tension) = bits::read_unsigned(
-        s,
-        layout::TENSION_COUNT_AT,
-        layout::COUNT_WIDTH,
-        1,
-        most,
-    ) else {
-        return CountsRead::OutOfRange;
+    let law = Law::of(layout::LAW.read(s));
+    let Some(tension) = layout::TENSION_COUNT.read_within(s, tension_bounds(law)) else {
+        return Err(Reason::SheetField);
     };
-    let sides = compression_of(law);
-    let Unsigned::Value(compression) = bits::read_unsigned(
-        s,
-        layout::COMPRESSION_COUNT_AT,
-        layout::COUNT_WIDTH,
-        sides,
-        sides,
-    ) else {
-        return CountsRead::OutOfRange;
+    let compression: u64 = layout::COMPRESSION_COUNT.read(s);
+    if compression != u64::from(law.has_second()) {
+        return Err(Reason::SheetField);
+    }
+    let Some(points) = layout::POINT_COUNT.read_within(s, POINTS) else {
+        return Err(Reason::SheetField);
     };
-    let Unsigned::Value(points) = bits::read_unsigned(
-        s,
-        layout::POINT_COUNT_AT,
-        layout::POINT_COUNT_WIDTH,
-        0,
-        expansion::MOST_POINTS as u64,
-    ) else {
-        return CountsRead::OutOfRange;
-    };
-    CountsRead::Right(Counts {
-        law: law,
+    Ok(Counts {
+        law,
         tension: tension as usize,
         compression: compression as usize,
         points: points as usize,
     })
 }
 
-// The greatest single expansion: 0 beside points.
-fn most_expansion(points: usize) -> u64
-    ensures { result ≡ cond (eqb points 0) most_expansion 0 }
-{
-    if points == 0 {
-        return ranges::MOST_EXPANSION;
-    }
-    0
-}
-
-fn read_constants(s: &[u8], points: usize) -> ConstantsRead
+// A sheet with points has no single expansion.
+#[tactic(auto, unfolding(bits::specs::Field::some_if, crate::specs::Sheets::constants_right))]
+fn read_constants(s: &[u8], points: usize) -> Result<Constants, Reason>
     ensures { result ≡ constants_in s.now points }
 {
-    let Unsigned::Value(modulus) = bits::read_unsigned(
-        s,
-        layout::MODULUS_AT,
-        layout::MODULUS_WIDTH,
-        1,
-        ranges::MOST_MODULUS,
-    ) else {
-        return ConstantsRead::OutOfRange;
+    let Some(modulus) = layout::MODULUS.read_within(s, ranges::MODULUS) else {
+        return Err(Reason::SheetField);
     };
-    let most = most_expansion(points);
-    let Unsigned::Value(expansion) = bits::read_unsigned(
-        s,
-        layout::EXPANSION_AT,
-        layout::EXPANSION_WIDTH,
-        0,
-        most,
-    ) else {
-        return ConstantsRead::OutOfRange;
+    let bounds = bounds_where(points == 0, ranges::EXPANSION);
+    let Some(expansion) = layout::EXPANSION.read_within(s, bounds) else {
+        return Err(Reason::SheetField);
     };
-    let Signed::Value(reference) = bits::read_signed(
-        s,
-        layout::REFERENCE_AT,
-        layout::REFERENCE_WIDTH,
-        ranges::LEAST_TEMPERATURE,
-        ranges::MOST_TEMPERATURE,
-    ) else {
-        return ConstantsRead::OutOfRange;
+    let Some(reference) = layout::REFERENCE.read_within(s, ranges::TEMPERATURE) else {
+        return Err(Reason::SheetField);
     };
-    ConstantsRead::Right(Constants {
+    Ok(Constants {
         modulus: Modulus(modulus),
         expansion: Expansion(expansion),
         reference: Tenths(reference),
@@ -239,392 +140,254 @@ fn read_constants(s: &[u8], points: usize) -> ConstantsRead
 }
 
 // The yields and the zero bits behind them. The compression yield is 0 where the law has no compression side.
-fn read_yields(s: &[u8], law: Law) -> YieldsRead
+#[tactic(auto, unfolding(bits::specs::Field::some_if, crate::specs::Sheets::yields_right))]
+fn read_yields(s: &[u8], law: Law) -> Result<Yields, Reason>
     ensures { result ≡ yields_in s.now law }
 {
-    let Unsigned::Value(_) = bits::read_unsigned(s, layout::ZERO_AT, layout::ZERO_WIDTH, 0, 0)
-    else {
-        return YieldsRead::OutOfRange;
+    let Some(_) = layout::ZERO.read_within(s, ranges::ZERO) else {
+        return Err(Reason::SheetField);
     };
-    let Unsigned::Value(tension) = bits::read_unsigned(
-        s,
-        layout::TENSION_YIELD_AT,
-        layout::YIELD_WIDTH,
-        1,
-        ranges::MOST_YIELD,
-    ) else {
-        return YieldsRead::OutOfRange;
+    let Some(tension) = layout::TENSION_YIELD.read_within(s, ranges::YIELD) else {
+        return Err(Reason::SheetField);
     };
-    let sides = compression_of(law);
-    let most = sides * ranges::MOST_YIELD;
-    let Unsigned::Value(compression) = bits::read_unsigned(
-        s,
-        layout::COMPRESSION_YIELD_AT,
-        layout::YIELD_WIDTH,
-        sides,
-        most,
-    ) else {
-        return YieldsRead::OutOfRange;
+    let bounds = bounds_where(law.has_second(), ranges::YIELD);
+    let Some(compression) = layout::COMPRESSION_YIELD.read_within(s, bounds) else {
+        return Err(Reason::SheetField);
     };
-    let tension_grains = tension * ranges::GRAINS;
-    let compression_grains = compression * ranges::GRAINS;
-    YieldsRead::Right(Yields {
-        tension: Magnitude(tension_grains),
-        compression: Magnitude(compression_grains),
+    Ok(Yields {
+        tension: Magnitude(tension * ranges::GRAINS),
+        compression: Magnitude(compression * ranges::GRAINS),
     })
 }
 
-fn read_header(s: &[u8]) -> HeaderRead
+#[tactic(auto, unfolding(crate::specs::Sheets::header_right))]
+fn read_header(s: &[u8]) -> Result<Header, Reason>
     ensures { result ≡ header_in s.now }
 {
-    let CountsRead::Right(counts) = read_counts(s) else {
-        return HeaderRead::OutOfRange;
-    };
-    let points = counts.points;
-    let ConstantsRead::Right(constants) = read_constants(s, points) else {
-        return HeaderRead::OutOfRange;
-    };
-    let law = counts.law;
-    let YieldsRead::Right(yields) = read_yields(s, law) else {
-        return HeaderRead::OutOfRange;
-    };
-    HeaderRead::Right(Header {
-        counts: counts,
-        constants: constants,
-        yields: yields,
+    let counts = read_counts(s)?;
+    let constants = read_constants(s, counts.points)?;
+    let yields = read_yields(s, counts.law)?;
+    Ok(Header {
+        counts,
+        constants,
+        yields,
     })
 }
 
-// The least length of a segment: 0 for the last one of its side.
-fn least_length(i: usize, count: usize) -> u64
-    requires { i < most_segments }
-    ensures { result ≡ least_length i count }
+// The bytes of a header with so many segments and points behind it; what comes next stands behind these.
+fn sheet_length(segments: usize, points: usize) -> usize
+    requires { (segments ≤ most_counted) × (points ≤ most_points_counted) }
+    ensures value { result ≡ sheet_length segments points }
+    ensures most { result ≤ longest_sheet }
 {
-    if i + 1 == count {
-        return 0;
+    layout::HEADER_LENGTH + layout::SEGMENT_LENGTH * segments + layout::POINT_LENGTH * points
+}
+
+// A place behind the last segment of a side (SPEC 3.9).
+const NO_SEGMENT: Segment = Segment {
+    length: Length(0),
+    tangent: Modulus(0),
+};
+
+// Segment i of a side that has `count` segments, the first of them being segment `first` of the sheet.
+#[tactic(auto, unfolding(bits::specs::Field::some_if))]
+fn read_segment(s: &[u8], first: usize, count: usize, i: usize) -> Result<Segment, Reason>
+    requires { (first ≤ most_segments) × (count ≤ most_segments) × (i < count) }
+    ensures { result ≡ right_or_field (length_right s.now first count i) (segment_in s.now (first + i)) }
+{
+    let at = 8 * sheet_length(first + i, 0);
+    let length = layout::LENGTH.behind(at);
+    // The last segment of a side has no end.
+    let Some(length) = length.read_within(s, bounds_where(i + 1 != count, ranges::LENGTH)) else {
+        return Err(Reason::SheetField);
+    };
+    let tangent = layout::TANGENT.behind(at).read(s);
+    Ok(Segment {
+        length: Length(length),
+        tangent: Modulus(tangent),
+    })
+}
+
+// `count` things that stand one behind another, each in its place of an array. The readers of many values are written out where they are
+// called, so that arrays aren't copied from answer to answer: a single pair takes a tenth less.
+#[inline(always)]
+fn read_each<T: Copy, F: Fn(usize) -> Result<T, Reason>, const PLACES: usize>(
+    count: usize,
+    empty: T,
+    read: F,
+) -> Result<[T; PLACES], Reason>
+    requires fits { count ≤ PLACES }
+    requires callable { (i : ℕ) → i < count → F.pre read i }
+    ensures { (right : ℕ → Bool) (thing : ℕ → T) → ReadsEach (F.post read) right thing count → result ≡ right_or_field (all_below right count) (placed PLACES empty (listed thing 0 count)) }
+{
+    let mut things = [empty; PLACES];
+    for i in 0..count {
+        things[i] = read(i)?;
     }
-    1
-}
-
-// The bit where a segment of the sheet begins.
-fn segment_at(i: usize) -> usize
-    requires { i < most_counted }
-    ensures value { result ≡ segment_at i }
-    ensures most { result ≤ 8 * longest_sheet }
-{
-    8 * (layout::HEADER_LENGTH + layout::SEGMENT_LENGTH * i)
-}
-
-// The length of a segment, within its bounds.
-fn read_length(s: &[u8], i: usize, least: u64, most: u64) -> Unsigned
-    requires { i < most_counted }
-    ensures { result ≡ unsigned_if (within least most (segment_length_in s.now i)) (segment_length_in s.now i) }
-{
-    let at = segment_at(i) + layout::LENGTH_AT;
-    bits::read_unsigned(s, at, layout::LENGTH_WIDTH, least, most)
-}
-
-// The tangent modulus of a segment.
-fn read_tangent(s: &[u8], i: usize) -> u64
-    requires { i < most_counted }
-    ensures { result ≡ segment_tangent_in s.now i }
-{
-    let at = segment_at(i) + layout::TANGENT_AT;
-    bits::read(s, at, layout::TANGENT_WIDTH)
-}
-
-fn no_segments() -> [Segment; curve::MOST_SEGMENTS]
-    ensures { result ≡ placed most_segments flat [] }
-{
-    [Segment {
-        length: Length(0),
-        tangent: Modulus(0),
-    }; curve::MOST_SEGMENTS]
+    Ok(things)
 }
 
 // The segments of a side: `count` of them, from segment `first` of the sheet on.
-fn read_segments(s: &[u8], first: usize, count: usize) -> SegmentsRead
+#[inline(always)]
+fn read_segments(
+    s: &[u8],
+    first: usize,
+    count: usize,
+) -> Result<[Segment; curve::MOST_SEGMENTS], Reason>
     requires { (first ≤ most_segments) × (count ≤ most_segments) }
     ensures { result ≡ segments_read s.now first count }
 {
-    let mut segments = no_segments();
-    let mut i = 0;
-    while i < count {
-        let least = least_length(i, count);
-        let most = least * ranges::MOST_LENGTH;
-        let Unsigned::Value(length) = read_length(s, first + i, least, most) else {
-            return SegmentsRead {
-                right: false,
-                segments: no_segments(),
-            };
-        };
-        let tangent = read_tangent(s, first + i);
-        segments[i] = Segment {
-            length: Length(length),
-            tangent: Modulus(tangent),
-        };
-        i += 1;
-    }
-    SegmentsRead {
-        right: true,
-        segments: segments,
-    }
+    read_each(count, NO_SEGMENT, |i| read_segment(s, first, count, i))
 }
 
-// The bit where a point of the sheet begins, behind all segments.
-fn point_at(segments: usize, i: usize) -> usize
-    requires { (segments ≤ most_counted) × (i < most_points) }
-    ensures value { result ≡ point_at segments i }
-    ensures most { result ≤ 8 * longest_sheet }
-{
-    8 * (layout::HEADER_LENGTH + layout::SEGMENT_LENGTH * segments + layout::POINT_LENGTH * i)
-}
-
-fn read_point(s: &[u8], segments: usize, i: usize) -> PointRead
-    requires segments_le_most_counted { (segments ≤ most_counted) × (i < most_points) }
-    requires segments { segments ≡ segment_count s.now }
+#[tactic(auto, using(crate::proofs::SheetLaws::few_segments), unfolding(bits::specs::Field::some_if))]
+fn read_point(s: &[u8], segments: usize, i: usize) -> Result<Point, Reason>
+    requires { (segments ≡ segment_count s.now) × (i < most_points) }
     ensures { result ≡ point_read s.now i }
 {
-    let at = point_at(segments, i);
-    let Signed::Value(temperature) = bits::read_signed(
-        s,
-        at + layout::POINT_TEMPERATURE_AT,
-        layout::POINT_TEMPERATURE_WIDTH,
-        ranges::LEAST_TEMPERATURE,
-        ranges::MOST_TEMPERATURE,
-    ) else {
-        return PointRead::OutOfRange;
+    let at = 8 * sheet_length(segments, i);
+    let temperature = layout::POINT_TEMPERATURE.behind(at);
+    let Some(temperature) = temperature.read_within(s, ranges::TEMPERATURE) else {
+        return Err(Reason::SheetField);
     };
-    let Unsigned::Value(coefficient) = bits::read_unsigned(
-        s,
-        at + layout::COEFFICIENT_AT,
-        layout::COEFFICIENT_WIDTH,
-        0,
-        ranges::MOST_EXPANSION,
-    ) else {
-        return PointRead::OutOfRange;
+    let coefficient = layout::COEFFICIENT.behind(at);
+    let Some(coefficient) = coefficient.read_within(s, ranges::EXPANSION) else {
+        return Err(Reason::SheetField);
     };
-    let Unsigned::Value(_) = bits::read_unsigned(
-        s,
-        at + layout::POINT_ZERO_AT,
-        layout::POINT_ZERO_WIDTH,
-        0,
-        0,
-    ) else {
-        return PointRead::OutOfRange;
+    let zero = layout::POINT_ZERO.behind(at);
+    let Some(_) = zero.read_within(s, ranges::ZERO) else {
+        return Err(Reason::SheetField);
     };
-    PointRead::Right(Point {
+    Ok(Point {
         temperature: Tenths(temperature),
         coefficient: Expansion(coefficient),
     })
 }
 
-fn no_points() -> [Point; expansion::MOST_POINTS]
-    ensures { result ≡ placed most_points no_point [] }
-{
-    [Point {
-        temperature: Tenths(expansion::NEVER_REACHED),
-        coefficient: Expansion(0),
-    }; expansion::MOST_POINTS]
-}
+// A place behind the last point (SPEC 3.9).
+const NO_POINT: Point = Point {
+    temperature: Tenths(expansion::NEVER_REACHED),
+    coefficient: Expansion(0),
+};
 
 // The points, behind the segments that the counts say.
-fn read_points(s: &[u8], counts: Counts) -> PointsRead
+#[tactic(auto, using(crate::proofs::SheetLaws::few_segments))]
+#[inline(always)]
+fn read_points(s: &[u8], counts: Counts) -> Result<[Point; expansion::MOST_POINTS], Reason>
     requires { (counts ≡ counts_of s.now) × (counts.points ≤ most_points) }
     ensures { result ≡ points_read s.now }
 {
     let segments = counts.tension + counts.compression;
-    let mut points = no_points();
-    let mut i = 0;
-    while i < counts.points {
-        let PointRead::Right(point) = read_point(s, segments, i) else {
-            return PointsRead {
-                right: false,
-                points: no_points(),
-            };
-        };
-        points[i] = point;
-        i += 1;
-    }
-    PointsRead {
-        right: true,
-        points: points,
-    }
+    read_each(counts.points, NO_POINT, |i| read_point(s, segments, i))
 }
 
 // Whether each tangent of a side is below Young's modulus and not above the one before it.
-fn tangents_right(s: &[u8], first: usize, count: usize, modulus: Modulus) -> bool
-    requires { (first ≤ most_segments) × (count ≤ most_segments) × (modulus.0 ≡ modulus_in s.now) }
-    ensures { result ≡ tangents_right s.now first count }
+#[tactic(auto, using(crate::proofs::TangentLaws::tangent_rule, crate::proofs::SheetLaws::all_below_more, crate::proofs::SheetLaws::all_below_stops), unfolding(crate::specs::Sheets::all_below))]
+fn falls(side: Side, modulus: Modulus) -> bool
+    requires { side.count ≤ most_segments }
+    ensures { result ≡ side_falls side modulus.0 }
 {
-    let most = modulus.0;
-    let mut before = most;
-    let mut i = 0;
-    while i < count {
-        let tangent = read_tangent(s, first + i);
-        if most <= tangent {
-            return false;
-        }
-        if before < tangent {
+    let mut before = modulus;
+    for segment in &side.segments[..side.count] {
+        let tangent = segment.tangent;
+        let keeps = tangent < modulus && tangent <= before;
+        if !keeps {
             return false;
         }
         before = tangent;
-        i += 1;
     }
     true
 }
 
-// A refusal has a sheet beside it that says nothing.
-fn refused(verdict: Verdict) -> SheetRead
-    ensures { result.verdict ≡ verdict }
+// The same on both sides of a sheet.
+fn tangents_fall(sheet: &Sheet) -> bool
+    requires { (sheet.now.tension.count ≤ most_segments) × (sheet.now.compression.count ≤ most_segments) }
+    ensures { result ≡ side_falls sheet.now.tension sheet.now.modulus.0 && side_falls sheet.now.compression sheet.now.modulus.0 }
 {
-    let nothing = Side {
-        yield_stress: Magnitude(0),
-        count: 0,
-        segments: no_segments(),
-    };
-    SheetRead {
-        verdict: verdict,
-        sheet: Sheet {
-            law: Law::IsotropicLine,
-            modulus: Modulus(0),
-            expansion: Coefficients {
-                single: Expansion(0),
-                count: 0,
-                points: no_points(),
-            },
-            reference: Tenths(0),
-            tension: nothing,
-            compression: nothing,
-        },
-    }
+    falls(sheet.tension, sheet.modulus) && falls(sheet.compression, sheet.modulus)
 }
 
-// A sheet whose header, segments and points were read.
-fn accepted(
-    header: Header,
-    tension: [Segment; curve::MOST_SEGMENTS],
-    compression: [Segment; curve::MOST_SEGMENTS],
-    points: [Point; expansion::MOST_POINTS],
-) -> SheetRead
-    ensures { result ≡ accepted_as header tension compression points }
+// All that the bytes say, where each field is right.
+#[tactic(auto, unfolding(crate::specs::Sheets::sheet_of))]
+#[inline(always)]
+fn read_values(s: &[u8]) -> Result<Sheet, Reason>
+    ensures { result ≡ values_in s.now }
 {
-    let counts = header.counts;
-    let constants = header.constants;
-    let yields = header.yields;
-    let law = counts.law;
-    let modulus = constants.modulus;
-    let single = constants.expansion;
-    let reference = constants.reference;
-    let tension_yield = yields.tension;
-    let compression_yield = yields.compression;
-    SheetRead {
-        verdict: Verdict::Accepted,
-        sheet: Sheet {
-            law: law,
-            modulus: modulus,
-            expansion: Coefficients {
-                single: single,
-                count: counts.points,
-                points: points,
-            },
-            reference: reference,
-            tension: Side {
-                yield_stress: tension_yield,
-                count: counts.tension,
-                segments: tension,
-            },
-            compression: Side {
-                yield_stress: compression_yield,
-                count: counts.compression,
-                segments: compression,
-            },
+    let Header {
+        counts,
+        constants,
+        yields,
+    } = read_header(s)?;
+    let tension = read_segments(s, 0, counts.tension)?;
+    let compression = read_segments(s, counts.tension, counts.compression)?;
+    let points = read_points(s, counts)?;
+    Ok(Sheet {
+        law: counts.law,
+        modulus: constants.modulus,
+        expansion: Coefficients {
+            single: constants.expansion,
+            count: counts.points,
+            points,
         },
-    }
-}
-
-// Refusals 2, 3 and 13 where the header is right and was read.
-fn read_behind(s: &[u8], header: Header) -> SheetRead
-    requires { (header_right s.now ≡ true) × (header ≡ header_of s.now) }
-    ensures { sheet_read_meaning result ≡ first_of (sheet_field_refusals s.now) (sheet_of s.now) }
-{
-    let counts = header.counts;
-    let tensions = counts.tension;
-    let compressions = counts.compression;
-    let tension = read_segments(s, 0, tensions);
-    let compression = read_segments(s, tensions, compressions);
-    let points = read_points(s, counts);
-    let fields_right = tension.right & compression.right & points.right;
-    if !fields_right {
-        return refused(Verdict::OutOfRange);
-    }
-    let constants = header.constants;
-    let modulus = constants.modulus;
-    let tension_falls = tangents_right(s, 0, tensions, modulus);
-    let compression_falls = tangents_right(s, tensions, compressions, modulus);
-    let tangents_right = tension_falls & compression_falls;
-    let tension_segments = tension.segments;
-    let compression_segments = compression.segments;
-    let all_points = points.points;
-    let read = accepted(header, tension_segments, compression_segments, all_points);
-    let sheet = read.sheet;
-    let coefficients = sheet.expansion;
-    let points_rise = coefficients.rise();
-    if !tangents_right {
-        return refused(Verdict::WrongTangent);
-    }
-    if !points_rise {
-        return refused(Verdict::UnorderedPoints);
-    }
-    read
+        reference: constants.reference,
+        tension: Side {
+            yield_stress: yields.tension,
+            count: counts.tension,
+            segments: tension,
+        },
+        compression: Side {
+            yield_stress: yields.compression,
+            count: counts.compression,
+            segments: compression,
+        },
+    })
 }
 
 // Refusals 2, 3 and 13, for bytes whose length is right.
-fn read_fields(s: &[u8]) -> SheetRead
-    ensures { sheet_read_meaning result ≡ first_of (sheet_field_refusals s.now) (sheet_of s.now) }
+#[tactic(auto, unfolding(refusals::specs::Table::first_of, crate::specs::Sheets::sheet_field_refusals))]
+#[inline(always)]
+fn read_fields(s: &[u8]) -> Result<Sheet, Reason>
+    ensures { answer_of result ≡ first_of (sheet_field_refusals s.now) (sheet_of s.now) }
 {
-    let HeaderRead::Right(header) = read_header(s) else {
-        return refused(Verdict::OutOfRange);
-    };
-    read_behind(s, header)
+    let sheet = read_values(s)?;
+    let falls = tangents_fall(&sheet);
+    let rises = sheet.expansion.rise();
+    if !falls {
+        return Err(Reason::SheetTangent);
+    }
+    if !rises {
+        return Err(Reason::PointOrder);
+    }
+    Ok(sheet)
 }
 
 // How long a sheet is by its own counts, valid or not.
+#[tactic(auto, using(crate::proofs::SheetLaws::few_segments, crate::proofs::SheetLaws::few_points))]
 pub fn counted_length(s: &[u8]) -> usize
     ensures value { result ≡ counted_length s.now }
     ensures most { result ≤ longest_sheet }
 {
-    let tensions = bits::read(s, layout::TENSION_COUNT_AT, layout::COUNT_WIDTH);
-    let compressions = bits::read(s, layout::COMPRESSION_COUNT_AT, layout::COUNT_WIDTH);
-    let points = bits::read(s, layout::POINT_COUNT_AT, layout::POINT_COUNT_WIDTH);
-    let segments = (tensions + compressions) as usize;
-    let points = points as usize;
-    layout::HEADER_LENGTH + layout::SEGMENT_LENGTH * segments + layout::POINT_LENGTH * points
+    let tensions: u64 = layout::TENSION_COUNT.read(s);
+    let compressions: u64 = layout::COMPRESSION_COUNT.read(s);
+    let points: u64 = layout::POINT_COUNT.read(s);
+    sheet_length((tensions + compressions) as usize, points as usize)
 }
 
-// Reads any bytes: the sheet, or which refusal it gets.
-pub fn read(s: &[u8]) -> SheetRead
-    ensures { sheet_read_meaning result ≡ first_of (sheet_refusals s.now) (sheet_of s.now) }
+#[tactic(auto, unfolding(crate::specs::Sheets::length_wrong))]
+fn length_wrong(s: &[u8]) -> bool
+    ensures { result ≡ length_wrong s.now }
 {
-    if s.len() < layout::HEADER_LENGTH {
-        return refused(Verdict::WrongLength);
-    }
-    let whole = counted_length(s);
-    if s.len() != whole {
-        return refused(Verdict::WrongLength);
+    s.len() < layout::HEADER_LENGTH || s.len() != counted_length(s)
+}
+
+// Refusals 1, 2, 3 and 13, of any bytes.
+#[tactic(auto, unfolding(refusals::specs::Table::first_of, crate::specs::Sheets::sheet_refusals))]
+#[inline(always)]
+fn read(s: &[u8]) -> Result<Sheet, Reason>
+    ensures { answer_of result ≡ first_of (sheet_refusals s.now) (sheet_of s.now) }
+{
+    if length_wrong(s) {
+        return Err(Reason::SheetLength);
     }
     read_fields(s)
-}
-
-// The thermal strain at a temperature (SPEC 5.1).
-pub fn thermal(sheet: Sheet, temperature: Tenths) -> Nano
-    requires { SheetSound sheet × (temperature_right temperature.0 ≡ true) }
-    ensures value { result ≡ nano (thermal_of sheet temperature.0) }
-    ensures most { nat_abs result.0 ≤ 400000000 }
-{
-    let reference = sheet.reference;
-    let coefficients = sheet.expansion;
-    temperature
-        .minus(reference)
-        .times(coefficients.at(temperature))
 }

@@ -8,7 +8,7 @@ use lib.Dec.{eqb}
 use lib.ListN.{get_or}
 use Rattle.refusals.specs.Table.{first_of, passes, refused}
 use Rattle.ranges.specs.Ranges.{around, temperature_right, most_strain, most_stress}
-use Rattle.bits.specs.Field.{signed_if}
+use Rattle.bits.specs.Field.{some_if}
 use Rattle.rod.specs.declared.Rod.{Rod}
 use Rattle.rod.specs.Variables.{first_right, second_right}
 use Rattle.rod.specs.InRange.{counts_right, rod_in_range}
@@ -72,5 +72,5 @@ module _ (s : List ℕ) where
   passed_by (z, f) = rw (z, in_range_is (state_of s), all_true (strain_test (state_of s)) (other_tests (state_of s)) f)
 
 -- A variable's answer by what a test of the law came to.
-pub answer_by : (right : Bool → Bool) (z : ℤ) {t u v : Bool} → t ≡ v → t ≡ u → signed_if (right u) z ≡ signed_if (right v) z
-answer_by right z e f = ap (λ (b : Bool). signed_if (right b) z) (sym f ∙ e)
+pub answer_by : (right : Bool → Bool) (z : ℤ) {t u v : Bool} → t ≡ v → t ≡ u → some_if (right u) z ≡ some_if (right v) z
+answer_by right z e f = ap (λ (b : Bool). some_if (right b) z) (sym f ∙ e)

@@ -1,14 +1,12 @@
 -- A state in bytes (SPEC 3.11, 3.16, 3.17) with 4 and 5, cited by judge, tie_rod, rod_log and the demands; definitions only, nothing is
 -- assumed.
 use Rattle.std.specs.Prelude.{ℕ, ◌<◌, ◌^◌, not, ◌&&◌, List, [], ◌∷◌, eqb, length, replicate}
-use Rattle.refusals.specs.Table.{Refusal, refusal, Answer, passes, refused}
+use Rattle.refusals.specs.Table.{Refusal, refusal}
 use Rattle.law.specs.Laws.{law_of, number_of}
 use Rattle.units.specs.Kinds.{nano, tenths, grain}
 use Rattle.bits.specs.Field.{Held, flag}
 use Rattle.bits.specs.Layout.{width_at, field_at, whole_at, bits_at, filled, packed, bytes_of}
 use Rattle.rod.specs.declared.Rod.{Rod}
-use Rattle.state.specs.declared.StateRead.{StateRead}
-use Rattle.state.specs.declared.StateRead.TheVariants.{Accepted, WrongLength, OutOfRange}
 use Rattle.rod.specs.InRange.{rod_in_range}
 
 -- SPEC 3.11: the bytes of a state.
@@ -44,12 +42,6 @@ state_field_refusals s = refusal 5 (not (eqb (zero_bits s) 0 && rod_in_range (st
 -- SPEC 8.2: 4 by the length, and then 5.
 unfoldable pub state_refusals : List ℕ → List Refusal
 state_refusals s = refusal 4 (not (eqb (length s) state_length)) ∷ state_field_refusals s
-
--- SPEC 8.8: the number, or the rod, that each case of the reader's answer stands for.
-abbrev pub state_read_meaning : StateRead → Answer Rod
-state_read_meaning (Accepted r) = passes r
-state_read_meaning WrongLength = refused 4
-state_read_meaning OutOfRange = refused 5
 
 -- SPEC 3.11: what a rod puts into the fields.
 abbrev pub state_values : Rod → List ℕ

@@ -1,41 +1,53 @@
 // Where everything stands in a state's bytes (SPEC 3.11); `specs/States.antt` has the same for contracts.
+use bits::Field;
 
 // Bytes of a state.
 pub const STATE_LENGTH: usize = 37;
 
-// The fields, in bits: each begins where the one before it ends.
-pub const LAW_AT: usize = 0;
+// The fields, each of which begins where the one before it ends.
+pub const LAW: Field = Field { at: 0, width: 2 };
 
-pub const LAW_WIDTH: usize = 2;
+pub const YIELDED: Field = Field {
+    at: LAW.at + LAW.width,
+    width: 1,
+};
 
-pub const YIELDED_AT: usize = LAW_AT + LAW_WIDTH;
+pub const ZERO: Field = Field {
+    at: YIELDED.at + YIELDED.width,
+    width: 5,
+};
 
-pub const YIELDED_WIDTH: usize = 1;
+pub const STRAIN: Field = Field {
+    at: ZERO.at + ZERO.width,
+    width: 32,
+};
 
-pub const ZERO_AT: usize = YIELDED_AT + YIELDED_WIDTH;
+pub const TEMPERATURE: Field = Field {
+    at: STRAIN.at + STRAIN.width,
+    width: 16,
+};
 
-pub const ZERO_WIDTH: usize = 5;
+pub const STRESS: Field = Field {
+    at: TEMPERATURE.at + TEMPERATURE.width,
+    width: 48,
+};
 
-pub const STRAIN_AT: usize = ZERO_AT + ZERO_WIDTH;
+pub const FIRST: Field = Field {
+    at: STRESS.at + STRESS.width,
+    width: 64,
+};
 
-pub const STRAIN_WIDTH: usize = 32;
+pub const SECOND: Field = Field {
+    at: FIRST.at + FIRST.width,
+    width: 64,
+};
 
-pub const TEMPERATURE_AT: usize = STRAIN_AT + STRAIN_WIDTH;
+pub const PAIRS: Field = Field {
+    at: SECOND.at + SECOND.width,
+    width: 32,
+};
 
-pub const TEMPERATURE_WIDTH: usize = 16;
-
-pub const STRESS_AT: usize = TEMPERATURE_AT + TEMPERATURE_WIDTH;
-
-pub const STRESS_WIDTH: usize = 48;
-
-pub const FIRST_AT: usize = STRESS_AT + STRESS_WIDTH;
-
-pub const VARIABLE_WIDTH: usize = 64;
-
-pub const SECOND_AT: usize = FIRST_AT + VARIABLE_WIDTH;
-
-pub const PAIRS_AT: usize = SECOND_AT + VARIABLE_WIDTH;
-
-pub const COUNT_WIDTH: usize = 32;
-
-pub const YIELDED_PAIRS_AT: usize = PAIRS_AT + COUNT_WIDTH;
+pub const YIELDED_PAIRS: Field = Field {
+    at: PAIRS.at + PAIRS.width,
+    width: 32,
+};

@@ -5,21 +5,19 @@ pub mod entry; // entry.rt: the entries
 mod lengths; // lengths.rt: what is decided by lengths alone
 mod walk; // walk.rt: the pairs, one after another
 
+use refusals::Refused;
 use rod::Rod;
 
-// What a list of pairs came to: number and place, the accepted pairs, and the state after the last of them.
-#[derive(Clone, Copy)]
-pub struct Walked {
-    pub number: u64,
-    pub place: usize,
-    pub accepted: usize,
-    pub rod: Rod,
-}
-
-// What a call answers: number and place, and how many pairs were accepted.
+// What a call answers: how many pairs were accepted, and what was refused.
 #[derive(Clone, Copy)]
 pub struct Reply {
-    pub number: u64,
-    pub place: usize,
     pub accepted: usize,
+    pub refused: Option<Refused>,
+}
+
+// What a list of pairs came to: its answer, and the state after the last accepted pair.
+#[derive(Clone, Copy)]
+pub struct Walked {
+    pub reply: Reply,
+    pub rod: Rod,
 }

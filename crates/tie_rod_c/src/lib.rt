@@ -1,23 +1,35 @@
 // The entries as C calls them (SPEC 9.10): each is thin above the entry of its name.
 #![tactic(auto)]
 
-ghost use Rattle.std.specs.Prelude.{◌≡◌, ◌≤◌, ◌<◌};
+ghost use Rattle.std.specs.Prelude.{◌≡◌, ◌^◌, ◌<◌};
 ghost use Rattle.refusals.specs.Table.{in_one_number};
-ghost use Rattle.ranges.specs.Ranges.{most_pairs};
+ghost use Rattle.refusals.specs.Reasons.{answer_of, number_in, place_in};
 ghost use Rattle.tie_rod.specs.Calls.{answer_number, call, call_leaves, forecast_answer, run, single, unused_answer, unused_left};
 ghost use Rattle.trial.specs.Trials.{keep_leaves, kept, trial_leaves, trial_with};
 ghost use Rattle.tie_rod_c.specs.Answers.{forecast_in_one_number, seen, seen_of, trial_seen, trial_seen_of};
 
-use tie_rod::entry::ForecastRead;
-use tie_rod::{Reply, entry};
+use refusals::{Reason, Refused};
+use tie_rod::entry;
 
-// The answer of a call as one number.
-fn pack(reply: Reply) -> u64
-    requires { (reply.number < 256) × (reply.place ≤ most_pairs) }
-    ensures { result ≡ in_one_number reply.number reply.place }
+// The answer of a call as one number, 0 where nothing was refused.
+fn in_one_number(refused: Option<Refused>) -> u64
+    requires { place_in refused < 2 ^ 48 }
+    ensures { result ≡ in_one_number (number_in refused) (place_in refused) }
 {
-    let place = reply.place as u64;
-    reply.number + 256 * place
+    match refused {
+        Some(refused) => refused.in_one_number(),
+        None => 0,
+    }
+}
+
+// The same where there is no place.
+fn number(answer: Result<(), Reason>) -> u64
+    ensures { result ≡ answer_number (answer_of answer) }
+{
+    match answer {
+        Ok(()) => 0,
+        Err(reason) => u64::from(reason),
+    }
 }
 
 // A whole run (SPEC 9.6).
@@ -31,7 +43,7 @@ pub extern "C" fn tie_rod_run(
 ) -> u64
     ensures { seen result rows.new next.new ≡ seen_of (call_leaves sheet.now state.now (call run pairs.now rows.old next.old)) }
 {
-    pack(entry::run_bytes(sheet, state, pairs, rows, next))
+    in_one_number(entry::run_bytes(sheet, state, pairs, rows, next).refused)
 }
 
 // A single pair (SPEC 9.6).
@@ -45,7 +57,7 @@ pub extern "C" fn tie_rod_pair(
 ) -> u64
     ensures { seen result rows.new next.new ≡ seen_of (call_leaves sheet.now state.now (call single pair.now rows.old next.old)) }
 {
-    pack(entry::pair_bytes(sheet, state, pair, rows, next))
+    in_one_number(entry::pair_bytes(sheet, state, pair, rows, next).refused)
 }
 
 // A trial (SPEC 16.2, 16.6).
@@ -60,7 +72,7 @@ pub extern "C" fn tie_rod_trial(
 ) -> u64
     ensures { trial_seen (seen result row.new next.new) trial.new ≡ trial_seen_of (trial_leaves sheet.now state.now (trial_with pair.now row.old next.old)) }
 {
-    pack(trial::trial(sheet, state, pair, row, next, trial))
+    in_one_number(trial::trial(sheet, state, pair, row, next, trial).refused)
 }
 
 // The keeping of a trial (SPEC 16.5, 16.6). Its answer has no place.
@@ -68,7 +80,7 @@ pub extern "C" fn tie_rod_trial(
 pub extern "C" fn tie_rod_keep(trial: &[u8; 75], state: &[u8], next: &mut [u8]) -> u64
     ensures { kept result next.new ≡ keep_leaves trial.now state.now next.old }
 {
-    trial::keep(trial, state, next)
+    number(trial::keep(trial, state, next))
 }
 
 // The tangent modulus that a state forecasts (SPEC 9.8).
@@ -77,8 +89,8 @@ pub extern "C" fn tie_rod_forecast(sheet: &[u8], state: &[u8]) -> u64
     ensures { result ≡ forecast_in_one_number (forecast_answer sheet.now state.now) }
 {
     match entry::forecast(sheet, state) {
-        ForecastRead::Tangent(tangent) => 256 * tangent.0,
-        ForecastRead::Refused(number) => number,
+        Ok(tangent) => 256 * tangent.0,
+        Err(reason) => u64::from(reason),
     }
 }
 
@@ -88,5 +100,5 @@ pub extern "C" fn tie_rod_unused(sheet: &[u8], state: &mut [u8; 37]) -> u64
     ensures value { result ≡ answer_number (unused_answer sheet.now) }
     ensures state { state.new ≡ unused_left (unused_answer sheet.now) }
 {
-    entry::unused(sheet, state)
+    number(entry::unused(sheet, state))
 }

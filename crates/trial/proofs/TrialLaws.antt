@@ -1,20 +1,24 @@
 -- Laws of a trial's bytes, and of the keeping that reads them (SPEC 16.3 to 16.5).
-use Prim.Native.Nat.{ℕ, suc, ◌+◌, ◌%◌, ◌<◌}
-use mathlib.Core.Path.{◌≡◌, refl, sym, ap, subst, ◌∙◌}
+use Prim.Native.Nat.{ℕ, suc, ◌+◌}
+use mathlib.Core.Path.{◌≡◌, refl, sym, ap, ap₂, subst, ◌∙◌}
 use mathlib.Core.Bool.{Bool, true, false, not, ◌&&◌, and-false, false≢true, cond}
-use mathlib.Core.List.{List, [], ◌∷◌, ◌++◌}
+use mathlib.Core.List.{List, [], ◌∷◌, ◌++◌, append-nil}
 use native.Mathlib.Omega.{arith}
 use borrow.Author.Tests.{eqb-true, eqb-false, eq-eqb, ne_eqb, not-false}
 use lib.Dec.{eqb}
-use lib.ListN.{length, take, length-append}
+use lib.ListN.{length, take, drop, set, length-append, length-drop, drop_of_length-le}
 use lib.Seq.{take_at, drop_at, take_all}
+use Rattle.std.specs.Cmp.Lexicographic.{pointwise}
+use Rattle.std.specs.Prelude.{Option, Some}
+use borrow.Rule.Slice.PartMut.{put_mid}
 use Rattle.refusals.specs.Table.{Answer, passes, refused, first_of}
 use Rattle.refusals.proofs.FirstLaws.{both_hold, passes_line}
-use Rattle.bits.specs.Layout.{bytes_of, put}
-use Rattle.bits.proofs.PutLaws.{put_whole, put_behind, length_put, length_bytes_of}
+use Rattle.refusals.specs.Reasons.{number_of}
+use Rattle.refusals.specs.Reasons as reasons
+use Rattle.refusals.specs.declared.Refused.{Refused}
+use Rattle.refusals.proofs.ReasonLaws.{reason_numbered}
 use Rattle.state.specs.States.{state_length}
-use Rattle.tie_rod.specs.declared.Reply.{Reply}
-use Rattle.tie_rod.specs.Calls.{Left, left, call_leaves}
+use Rattle.tie_rod.specs.Calls.{Reply, Left, left, call_leaves}
 use Rattle.tie_rod.proofs.Numbers.{Whole, accepted_whole}
 use Rattle.trial.specs.Trials.{Trial, as_single, trial_length, trial_bytes, trial_left, trial_leaves, accepted_bytes, refused_bytes, number_in, start_in, next_in, same_bytes, keep_refusals, kept, kept_by, keep_leaves}
 
@@ -45,28 +49,32 @@ not_same a b differ = by_test (same_bytes a b) refl
 pub differ_not : (a b : List ℕ) → same_bytes a b ≡ false → a ≡ b → ⊥
 differ_not a b e same = false≢true (sym e ∙ subst (λ (l : List ℕ). same_bytes a l ≡ true) same (are_same a))
 
--- ---- What a trial writes
+-- What `==` says of two slices of bytes.
+pub pointwise_same : (a b : List ℕ) → pointwise eqb a b ≡ same_bytes a b
+unfolding same_bytes
+pointwise_same [] [] = refl
+pointwise_same [] (y ∷ b) = refl
+pointwise_same (x ∷ a) [] = refl
+pointwise_same (x ∷ a) (y ∷ b) = ap (λ (t : Bool). eqb x y && t) (pointwise_same a b)
 
--- Zero bytes everywhere, and the number over the first.
-pub refused_written : (number : ℕ) (trial : List ℕ) → number < 256 → length trial ≡ trial_length
-    → put (put trial 0 (bytes_of trial_length 0)) 0 (bytes_of 1 number) ≡ refused_bytes number
-unfolding put bytes_of
-refused_written number trial few long =
-    let byte : number % 256 ≡ number = omega (arith, few) in
-    ap (λ (l : List ℕ). put l 0 (bytes_of 1 number)) (put_whole trial (bytes_of trial_length 0) (long ∙ sym (length_bytes_of trial_length 0)))
-    ∙ ap (λ (n : ℕ). refused_bytes n) byte
+-- ---- What a trial writes
 
 -- Number 0, the start, and the next state behind it.
 pub accepted_written : (start next trial : List ℕ) → length start ≡ state_length → length next ≡ state_length → length trial ≡ trial_length
-    → put (put (put trial 0 (bytes_of 1 0)) 1 start) (1 + state_length) next ≡ accepted_bytes start next
-unfolding put bytes_of
-accepted_written start next trial starts nexts long =
-    let marked = put trial 0 (0 ∷ []) in
-    let room : length marked ≡ trial_length = length_put trial 0 (0 ∷ []) (omega (arith, long)) ∙ long in
-    ap (λ (n : ℕ). put (put marked 1 start) (1 + n) next) (sym starts)
-    ∙ put_behind marked 1 start next (omega (arith, room, starts))
-    ∙ put_behind trial 0 (0 ∷ []) (start ++ next) (omega (arith, long))
-    ∙ put_whole trial (accepted_bytes start next) (omega (arith, long, starts, nexts, length-append start next))
+    → put_mid (1 + state_length) state_length (put_mid 1 state_length (set trial 0 0) start) next ≡ accepted_bytes start next
+accepted_written start next [] starts nexts long = absurd (omega (arith, long))
+accepted_written start next (x ∷ rest) starts nexts long =
+    let behind = drop state_length rest in
+    let front : take state_length (start ++ behind) ≡ start = take_at start behind state_length starts in
+    let end : drop state_length (drop state_length (start ++ behind)) ≡ [] =
+    ap (drop state_length) (drop_at start behind state_length starts) ∙ drop_of_length-le behind {i = state_length} (omega (arith, length-drop state_length rest, long)) in
+    ap₂ (λ (f b : List ℕ). (0 ∷ f) ++ (next ++ b)) front end ∙ ap (λ (l : List ℕ). 0 ∷ (start ++ l)) (append-nil next)
+
+-- The number of a call that was refused.
+pub refused_told : {o : Option Refused} {r : Refused} (start next : List ℕ) → o ≡ Some r → refused_bytes (number_of r.reason) ≡ trial_bytes (reasons.number_in o) start next
+refused_told {o} {r} start next e =
+    let number : reasons.number_in o ≡ number_of r.reason = ap reasons.number_in e in
+    rw (number, ne_eqb (number_of r.reason) 0 (reason_numbered r.reason).0)
 
 -- What a trial leaves: the single pair's answer and buffers, and its own bytes.
 pub tried_as : (sheet state : List ℕ) (t : Trial) {r : Reply} {rows next trial : List ℕ} → left r rows next ≡ call_leaves sheet state (as_single t)

@@ -2,49 +2,43 @@
 // yet; its keeping hands the next state on.
 #![tactic(auto)]
 
-ghost use Rattle.std.specs.Prelude.{◌≡◌, ◌+◌, ◌≤◌, ◌<◌, length};
-ghost use Rattle.refusals.specs.Table.{first_of, numbered};
-ghost use Rattle.bits.specs.Layout.{put};
+ghost use Rattle.std.specs.Prelude.{◌≡◌, length};
+ghost use Rattle.refusals.specs.Table.{first_of};
+ghost use Rattle.refusals.specs.Reasons.{answer_by, answer_of, number_of};
 ghost use Rattle.state.specs.States.{state_length};
-ghost use Rattle.tie_rod.specs.Calls.{left};
-ghost use Rattle.trial.specs.Trials.{accepted_bytes, keep_leaves, keep_refusals, kept, next_in, refused_bytes, same_bytes, start_in, trial_leaves, trial_left, trial_length, trial_with};
+ghost use Rattle.tie_rod.specs.Calls.{answer_number, left};
+ghost use Rattle.tie_rod.specs.Answers.{reply_meaning};
+ghost use Rattle.trial.specs.Trials.{accepted_bytes, keep_leaves, keep_refusals, kept, next_in, refused_bytes, same_bytes, start_in, trial_leaves, trial_left, trial_with};
 
+use refusals::Reason;
+use state::STATE_LENGTH;
 use tie_rod::{Reply, entry};
 
 // Where everything stands in a trial's bytes (SPEC 16.3): its number in the first, its start, its next state.
 const START_AT: usize = 1;
 
-const NEXT_AT: usize = START_AT + state::STATE_LENGTH;
+const NEXT_AT: usize = START_AT + STATE_LENGTH;
 
 // Bytes of a trial.
-pub const TRIAL_LENGTH: usize = NEXT_AT + state::STATE_LENGTH;
+pub const TRIAL_LENGTH: usize = NEXT_AT + STATE_LENGTH;
 
 // A refused trial has its number, and nothing to keep.
-fn write_refused(number: u64, trial: &mut [u8])
-    requires { (number < 256) × (length trial.old ≡ trial_length) }
-    ensures { trial.new ≡ refused_bytes number }
+fn write_refused(reason: Reason, trial: &mut [u8; TRIAL_LENGTH])
+    ensures { trial.new ≡ refused_bytes (number_of reason) }
 {
-    bits::write(trial, 0, TRIAL_LENGTH, 0);
-    bits::write(trial, 0, START_AT, number);
-}
-
-// Copies some bytes to a place in a trial's bytes.
-fn store(bytes: &[u8], trial: &mut [u8], at: usize)
-    requires { at + length bytes.now ≤ length trial.old }
-    ensures { trial.new ≡ put trial.old at bytes.now }
-{
-    let end = at + bytes.len();
-    trial[at..end].copy_from_slice(bytes);
+    *trial = [0; TRIAL_LENGTH];
+    trial[0] = u64::from(reason) as u8;
 }
 
 // An accepted trial has number 0, the state that it started from and the one that it came to.
-fn write_accepted(start: &[u8], next: &[u8], trial: &mut [u8])
-    requires { (length start.now ≡ state_length) × (length next.now ≡ state_length) × (length trial.old ≡ trial_length) }
+#[tactic(auto, using(crate::proofs::TrialLaws::accepted_written))]
+fn write_accepted(start: &[u8], next: &[u8], trial: &mut [u8; TRIAL_LENGTH])
+    requires { (length start.now ≡ state_length) × (length next.now ≡ state_length) }
     ensures { trial.new ≡ accepted_bytes start.now next.now }
 {
-    bits::write(trial, 0, START_AT, 0);
-    store(start, trial, START_AT);
-    store(next, trial, NEXT_AT);
+    trial[0] = 0;
+    trial[START_AT..NEXT_AT].copy_from_slice(start);
+    trial[NEXT_AT..].copy_from_slice(next);
 }
 
 // Tries a pair (SPEC 16.2): answer, row and next state are the single pair's, and the state that was given stays the rod's.
@@ -54,14 +48,13 @@ pub fn trial(
     pair: &[u8],
     row: &mut [u8],
     next: &mut [u8],
-    trial: &mut [u8; 75],
+    trial: &mut [u8; TRIAL_LENGTH],
 ) -> Reply
-    ensures { trial_left (left result row.new next.new) trial.new ≡ trial_leaves sheet.now state.now (trial_with pair.now row.old next.old) }
+    ensures { trial_left (left (reply_meaning result) row.new next.new) trial.new ≡ trial_leaves sheet.now state.now (trial_with pair.now row.old next.old) }
 {
     let reply = entry::pair_bytes(sheet, state, pair, row, next);
-    let number = reply.number;
-    if number != 0 {
-        write_refused(number, trial);
+    if let Some(refused) = reply.refused {
+        write_refused(refused.reason, trial);
         return reply;
     }
     write_accepted(state, next, trial);
@@ -69,49 +62,33 @@ pub fn trial(
 }
 
 // Whether all of a state's bytes are those of a trial's start.
-fn is_start(tried: &[u8], state: &[u8]) -> bool
-    requires { length tried.now ≡ trial_length }
+#[tactic(auto, using(crate::proofs::TrialLaws::pointwise_same))]
+fn is_start(tried: &[u8; TRIAL_LENGTH], state: &[u8]) -> bool
     ensures { result ≡ same_bytes state.now (start_in tried.now) }
 {
-    if state.len() != state::STATE_LENGTH {
-        return false;
-    }
-    let mut i = 0;
-    while i < state::STATE_LENGTH {
-        if state[i] != tried[START_AT + i] {
-            return false;
-        }
-        i += 1;
-    }
-    true
+    state == &tried[START_AT..NEXT_AT]
 }
 
-// 12 or 15, or 0 where neither applies (SPEC 16.4).
+// 12 or 15, unless the trial is to be kept (SPEC 16.4).
 #[tactic(auto, using(crate::proofs::TrialLaws::keep_stops, crate::proofs::TrialLaws::keep_refused, crate::proofs::TrialLaws::keep_kept, crate::proofs::TrialLaws::keep_elsewhere))]
-fn keep_number(tried: &[u8], state: &[u8], next: usize) -> u64
-    requires { length tried.now ≡ trial_length }
-    ensures { numbered result (next_in tried.now) ≡ first_of (keep_refusals tried.now state.now next) (next_in tried.now) }
+fn check(tried: &[u8; TRIAL_LENGTH], state: &[u8], next: usize) -> Result<(), Reason>
+    ensures { answer_by (λ _. next_in tried.now) result ≡ first_of (keep_refusals tried.now state.now next) (next_in tried.now) }
 {
-    if next != state::STATE_LENGTH {
-        return 12;
+    if next != STATE_LENGTH {
+        return Err(Reason::LentBuffer);
     }
-    if tried[0] != 0 {
-        return 15;
+    if tried[0] != 0 || !is_start(tried, state) {
+        return Err(Reason::TrialNotOfState);
     }
-    if is_start(tried, state) {
-        return 0;
-    }
-    15
+    Ok(())
 }
 
-// Keeps a trial (SPEC 16.5): its next state is handed on, or nothing is written beside a number.
-pub fn keep(trial: &[u8; 75], state: &[u8], next: &mut [u8]) -> u64
-    ensures { kept result next.new ≡ keep_leaves trial.now state.now next.old }
+// Keeps a trial (SPEC 16.5): its next state is handed on, or nothing is written.
+#[tactic(auto, using(crate::proofs::TrialLaws::keep_left, crate::proofs::TrialLaws::keep_handed))]
+pub fn keep(trial: &[u8; TRIAL_LENGTH], state: &[u8], next: &mut [u8]) -> Result<(), Reason>
+    ensures { kept (answer_number (answer_of result)) next.new ≡ keep_leaves trial.now state.now next.old }
 {
-    let tried = &trial[..];
-    let number = keep_number(tried, state, next.len());
-    if number == 0 {
-        next.copy_from_slice(&tried[NEXT_AT..TRIAL_LENGTH]);
-    }
-    number
+    check(trial, state, next.len())?;
+    next.copy_from_slice(&trial[NEXT_AT..]);
+    Ok(())
 }

@@ -2,85 +2,215 @@
 // leads from temperature to strain, and a curvature from an offset.
 #![tactic(auto)]
 
-ghost use Rattle.std.specs.Prelude.{◌≡◌, ◌+◌, ◌-◌, ◌*◌, ◌/◌, ◌^◌, ◌≤◌, ◌<◌, leb, ltb, true, pos, nat_abs, ◌+ℤ◌, ◌-ℤ◌, ◌*ℤ◌};
-ghost use Rattle.std.specs.Int.Signed.{le_z, lt_z};
+ghost use Rattle.std.specs.Prelude.{◌≡◌, ◌+◌, ◌-◌, ◌*◌, ◌/◌, ◌^◌, ◌≤◌, ◌<◌, true, ℕ, ℤ, pos, nat_abs, ◌+ℤ◌, ◌-ℤ◌, ◌*ℤ◌, refl};
+ghost use Rattle.std.specs.Int.Signed.{le_z};
 ghost use Rattle.units.specs.Kinds.{nano, grain, tenths, length_of, magnitude};
 ghost use Rattle.units.specs.Signs.{is_neg, with_sign};
 
 // Strain, in 10⁻⁹.
-#[derive(Clone, Copy)]
+#[derive(Clone, Copy, PartialEq, Eq, PartialOrd, Ord)]
 pub struct Nano(pub i64);
 
 // Stress, in grains: 10⁻⁹ MPa.
-#[derive(Clone, Copy)]
+#[derive(Clone, Copy, PartialEq, Eq, PartialOrd, Ord)]
 pub struct Grain(pub i64);
 
 // Temperature, in tenths of a degree Celsius.
-#[derive(Clone, Copy)]
+#[derive(Clone, Copy, PartialEq, Eq, PartialOrd, Ord)]
 pub struct Tenths(pub i64);
 
 // The length of a segment, or the magnitude of a strain, in nano.
-#[derive(Clone, Copy)]
+#[derive(Clone, Copy, PartialEq, Eq, PartialOrd, Ord)]
 pub struct Length(pub u64);
 
 // Grains that have no sign: the magnitude of a stress, a yield stress, a yield limit, an abscissa.
-#[derive(Clone, Copy)]
+#[derive(Clone, Copy, PartialEq, Eq, PartialOrd, Ord)]
 pub struct Magnitude(pub u64);
 
 // A modulus, in MPa.
-#[derive(Clone, Copy)]
+#[derive(Clone, Copy, PartialEq, Eq, PartialOrd, Ord)]
 pub struct Modulus(pub u64);
 
 // Thermal expansion, in nano per tenth of a degree.
-#[derive(Clone, Copy)]
+#[derive(Clone, Copy, PartialEq, Eq, PartialOrd, Ord)]
 pub struct Expansion(pub u64);
 
 // Curvature of a section, in nano per mm.
-#[derive(Clone, Copy)]
+#[derive(Clone, Copy, PartialEq, Eq, PartialOrd, Ord)]
 pub struct Curvature(pub i64);
 
-impl Nano {
-    pub fn plus(self, other: Nano) -> Nano
-        requires { nat_abs self.0 + nat_abs other.0 < 2 ^ 63 }
-        ensures value { result ≡ nano (self.0 +ℤ other.0) }
-        ensures most { nat_abs result.0 ≤ nat_abs self.0 + nat_abs other.0 }
+// A signed kind that is added up. What such kinds have stands here once, and none of it joins two of them. Each kind says by itself how it
+// holds its number: an impl may not be written by a macro.
+pub trait Quantity: Copy {
+    // What its magnitude is.
+    type Size: From<u64>;
+
+    // The whole number that it holds,
+    ghost number: { Self → ℤ };
+
+    // and the quantity that holds a whole number.
+    ghost quantity: { ℤ → Self };
+
+    fn whole(self) -> i64
+        ensures { result ≡ number self };
+
+    fn of_whole(whole: i64) -> Self
+        ensures { result ≡ quantity whole };
+
+    final fn plus(self, other: Self) -> Self
+        requires { nat_abs (number self) + nat_abs (number other) < 2 ^ 63 }
+        ensures value { result ≡ quantity (number self +ℤ number other) }
+        ensures most { nat_abs (number result) ≤ nat_abs (number self) + nat_abs (number other) }
     {
-        let strain = self.0 + other.0;
-        Nano(strain)
+        Self::of_whole(self.whole() + other.whole())
     }
 
-    pub fn minus(self, other: Nano) -> Nano
-        requires { nat_abs self.0 + nat_abs other.0 < 2 ^ 63 }
-        ensures value { result ≡ nano (self.0 -ℤ other.0) }
-        ensures most { nat_abs result.0 ≤ nat_abs self.0 + nat_abs other.0 }
+    final fn minus(self, other: Self) -> Self
+        requires { nat_abs (number self) + nat_abs (number other) < 2 ^ 63 }
+        ensures value { result ≡ quantity (number self -ℤ number other) }
+        ensures most { nat_abs (number result) ≤ nat_abs (number self) + nat_abs (number other) }
     {
-        let strain = self.0 - other.0;
-        Nano(strain)
+        Self::of_whole(self.whole() - other.whole())
     }
 
-    // MPa times nano is grains (SPEC 2.1).
-    pub fn times(self, modulus: Modulus) -> Grain
-        requires { (modulus.0 < 2 ^ 63) × (modulus.0 * nat_abs self.0 < 2 ^ 63) }
-        ensures value { result ≡ grain (pos modulus.0 *ℤ self.0) }
-        ensures size { nat_abs result.0 ≡ modulus.0 * nat_abs self.0 }
+    final fn magnitude(self) -> Self::Size
+        ensures { Self.Size.from_gives (nat_abs (number self)) result }
     {
-        let factor = modulus.0 as i64;
-        let stress = factor * self.0;
-        Grain(stress)
+        Self::Size::from(self.whole().unsigned_abs())
     }
 
-    pub fn magnitude(self) -> Length
-        ensures { result ≡ length_of (nat_abs self.0) }
+    final fn negative(self) -> bool
+        ensures { result ≡ is_neg (number self) }
     {
-        Length(size(self.0))
+        self.whole() < 0
     }
 
-    pub fn negative(self) -> bool
-        ensures { result ≡ is_neg self.0 }
-    {
-        let strain = self.0;
-        strain < 0
+    ghost back: { (z : ℤ) → number (quantity z) ≡ z };
+}
+
+impl Quantity for Nano {
+    type Size = Length;
+
+    ghost number = { λ strain. strain.0 };
+
+    ghost quantity = { nano };
+
+    ghost back = { λ z. refl };
+
+    fn whole(self) -> i64 {
+        self.0
     }
+
+    fn of_whole(whole: i64) -> Nano {
+        Nano(whole)
+    }
+}
+
+impl Quantity for Grain {
+    type Size = Magnitude;
+
+    ghost number = { λ stress. stress.0 };
+
+    ghost quantity = { grain };
+
+    ghost back = { λ z. refl };
+
+    fn whole(self) -> i64 {
+        self.0
+    }
+
+    fn of_whole(whole: i64) -> Grain {
+        Grain(whole)
+    }
+}
+
+impl Quantity for Tenths {
+    type Size = u64;
+
+    ghost number = { λ temperature. temperature.0 };
+
+    ghost quantity = { tenths };
+
+    ghost back = { λ z. refl };
+
+    fn whole(self) -> i64 {
+        self.0
+    }
+
+    fn of_whole(whole: i64) -> Tenths {
+        Tenths(whole)
+    }
+}
+
+impl From<u64> for Length {
+    ghost from_gives = { λ nano length. length ≡ length_of nano };
+
+    fn from(nano: u64) -> Length {
+        Length(nano)
+    }
+}
+
+impl From<u64> for Magnitude {
+    ghost from_gives = { λ grains size. size ≡ magnitude grains };
+
+    fn from(grains: u64) -> Magnitude {
+        Magnitude(grains)
+    }
+}
+
+// What a quantity is multiplied by, to be one of another kind.
+pub trait Factor: Copy {
+    ghost number: { Self → ℕ };
+
+    fn whole(self) -> u64
+        ensures { result ≡ number self };
+}
+
+impl Factor for Modulus {
+    ghost number = { λ modulus. modulus.0 };
+
+    fn whole(self) -> u64 {
+        self.0
+    }
+}
+
+impl Factor for Expansion {
+    ghost number = { λ expansion. expansion.0 };
+
+    fn whole(self) -> u64 {
+        self.0
+    }
+}
+
+// A kind that has a factor into another one.
+pub trait Scaled: Quantity {
+    type By: Factor;
+
+    type Product: Quantity;
+
+    final fn times(self, by: Self::By) -> Self::Product
+        requires { (Self.By.number by < 2 ^ 63) × (Self.By.number by * nat_abs (Self.number self) < 2 ^ 63) }
+        ensures value { result ≡ Self.Product.quantity (pos (Self.By.number by) *ℤ Self.number self) }
+        ensures size { nat_abs (Self.Product.number result) ≡ Self.By.number by * nat_abs (Self.number self) }
+    {
+        let factor = by.whole() as i64;
+        let product = factor * self.whole();
+        Self::Product::of_whole(product)
+    }
+}
+
+// MPa times nano is grains (SPEC 2.1).
+impl Scaled for Nano {
+    type By = Modulus;
+
+    type Product = Grain;
+}
+
+// Nano per tenth times tenths is nano.
+impl Scaled for Tenths {
+    type By = Expansion;
+
+    type Product = Nano;
 }
 
 impl Curvature {
@@ -96,81 +226,17 @@ impl Curvature {
 }
 
 impl Tenths {
-    pub fn minus(self, other: Tenths) -> Tenths
-        requires { nat_abs self.0 + nat_abs other.0 < 2 ^ 63 }
-        ensures value { result ≡ tenths (self.0 -ℤ other.0) }
-        ensures most { nat_abs result.0 ≤ nat_abs self.0 + nat_abs other.0 }
-    {
-        let difference = self.0 - other.0;
-        Tenths(difference)
-    }
-
-    pub fn below(self, other: Tenths) -> bool
-        ensures { result ≡ lt_z self.0 other.0 }
-    {
-        self.0 < other.0
-    }
-
     // How many tenths it is above another temperature.
     pub fn tenths_above(self, other: Tenths) -> u64
         requires self_value { le_z other.0 self.0 ≡ true }
         requires room { nat_abs self.0 + nat_abs other.0 < 2 ^ 63 }
         ensures { pos result ≡ self.0 -ℤ other.0 }
     {
-        let excess = self.0 - other.0;
-        excess as u64
-    }
-
-    pub fn times(self, expansion: Expansion) -> Nano
-        requires { (expansion.0 < 2 ^ 63) × (expansion.0 * nat_abs self.0 < 2 ^ 63) }
-        ensures value { result ≡ nano (pos expansion.0 *ℤ self.0) }
-        ensures size { nat_abs result.0 ≡ expansion.0 * nat_abs self.0 }
-    {
-        let factor = expansion.0 as i64;
-        let strain = factor * self.0;
-        Nano(strain)
+        self.minus(other).0 as u64
     }
 }
 
 impl Grain {
-    pub fn plus(self, other: Grain) -> Grain
-        requires { nat_abs self.0 + nat_abs other.0 < 2 ^ 63 }
-        ensures value { result ≡ grain (self.0 +ℤ other.0) }
-        ensures most { nat_abs result.0 ≤ nat_abs self.0 + nat_abs other.0 }
-    {
-        let stress = self.0 + other.0;
-        Grain(stress)
-    }
-
-    pub fn minus(self, other: Grain) -> Grain
-        requires { nat_abs self.0 + nat_abs other.0 < 2 ^ 63 }
-        ensures value { result ≡ grain (self.0 -ℤ other.0) }
-        ensures most { nat_abs result.0 ≤ nat_abs self.0 + nat_abs other.0 }
-    {
-        let stress = self.0 - other.0;
-        Grain(stress)
-    }
-
-    pub fn magnitude(self) -> Magnitude
-        ensures { result ≡ magnitude (nat_abs self.0) }
-    {
-        Magnitude(size(self.0))
-    }
-
-    pub fn negative(self) -> bool
-        ensures { result ≡ is_neg self.0 }
-    {
-        let stress = self.0;
-        stress < 0
-    }
-
-    pub fn at_most(self, other: Grain) -> bool
-        ensures { result ≡ le_z self.0 other.0 }
-    {
-        let stress = self.0;
-        stress <= other.0
-    }
-
     // A magnitude with its sign put back.
     pub fn of(negative: bool, size: Magnitude) -> Grain
         requires { size.0 < 2 ^ 63 }
@@ -188,12 +254,6 @@ impl Length {
         ensures { result ≡ magnitude (modulus.0 * self.0) }
     {
         Magnitude(modulus.0 * self.0)
-    }
-
-    pub fn at_most(self, other: Length) -> bool
-        ensures { result ≡ leb self.0 other.0 }
-    {
-        self.0 <= other.0
     }
 }
 
@@ -214,6 +274,7 @@ impl Magnitude {
 
     // The share tangent / modulus, rounded down: one division where the product fits 64 bits, as the bounds 2 ^ 20 and 2 ^ 44 make sure;
     // else the quotient and the remainder apart, so that no product leaves 64 bits.
+    #[tactic(auto, using(crate::proofs::Floors::in_parts))]
     pub fn share(self, tangent: Modulus, modulus: Modulus) -> Magnitude
         requires { (0 < modulus.0) × (tangent.0 ≤ modulus.0) × (modulus.0 ≤ 2 ^ 32) }
         ensures value { result ≡ magnitude (self.0 * tangent.0 / modulus.0) }
@@ -222,39 +283,14 @@ impl Magnitude {
         let d = self.0;
         let t = tangent.0;
         let e = modulus.0;
-        if t < 1048576 {
-            if d < 17592186044416 {
-                let product = d * t;
-                return Magnitude(product / e);
-            }
+        if t < 1048576 && d < 17592186044416 {
+            let product = d * t;
+            return Magnitude(product / e);
         }
         let parts = (d / e) * t;
         let rest = (d % e) * t;
         let share = parts + rest / e;
         Magnitude(share)
-    }
-
-    pub fn at_most(self, other: Magnitude) -> bool
-        ensures { result ≡ leb self.0 other.0 }
-    {
-        self.0 <= other.0
-    }
-
-    pub fn below(self, other: Magnitude) -> bool
-        ensures { result ≡ ltb self.0 other.0 }
-    {
-        self.0 < other.0
-    }
-}
-
-// The magnitude of a whole number. -1 - a is in range for the least number of 64 bits too.
-fn size(a: i64) -> u64
-    ensures { result ≡ nat_abs a }
-{
-    if a < 0 {
-        ((-1 - a) as u64) + 1
-    } else {
-        a as u64
     }
 }
 

@@ -1,5 +1,5 @@
 use Rattle.std.proofs.Common.{arith, ℕ, zero, suc, ◌≤◌, ◌<◌, ◌+◌, ◌-◌, ◌/◌, ◌%◌, ◌≡◌, sym, ap, ◌∙◌, List, length}
-use Rattle.std.proofs.Math.ListN.{set, length-set}
+use Rattle.std.proofs.Math.ListN.{set}
 use Rattle.bits.specs.Layout.{bytes_of, put}
 use Rattle.bits.proofs.PutLaws.{length_bytes_of, put_nothing, put_store}
 use Rattle.bits.proofs.write.Goals as goal
@@ -14,14 +14,18 @@ turn buffer at (suc n) rest h room =
     let long = length_bytes_of n (rest / 256) in
     rw (one) (ap (λ (k : ℕ). put (set buffer (at + k) (rest % 256)) at (bytes_of n (rest / 256))) (sym long) ∙ put_store buffer at (bytes_of n (rest / 256)) (rest % 256) (rw long (omega arith)))
 
-pub loop-left-preserved : goal.loop-left-preserved
-loop-left-preserved c =
-    let l = c.loop-left in
-    (omega arith, length-set l.buffer (c.args.at + (l.left - 1)) (l.rest % 256) ∙ l.invariant.1, turn l.buffer c.args.at l.left l.rest c.loop-left-test.true (omega arith) ∙ l.invariant.2)
+pub loop-done-preserved : goal.loop-done-preserved
+loop-done-preserved g c =
+    let l = c.loop-done in
+    let left = c.args.count - l.done in
+    let place : c.args.count - 1 - l.done ≡ left - 1 = omega arith in
+    let fewer : c.args.count - (l.done + 1) ≡ left - 1 = omega arith in
+    rw (place, fewer) (turn l.buffer c.args.at left l.rest (omega arith) (omega arith) ∙ l.invariant)
 
 pub returns : goal.returns
 unfolding bytes_of
-returns c =
-    let l = c.loop-left in
-    let none : 0 ≡ l.left = omega arith in
-    sym (put_nothing l.buffer c.args.at) ∙ ap (λ (n : ℕ). put l.buffer c.args.at (bytes_of n l.rest)) none ∙ l.invariant.2
+returns g c =
+    let l = c.loop-done in
+    let none : 0 ≡ c.args.count - l.done = omega arith in
+    sym (put_nothing l.buffer c.args.at) ∙ ap (λ (n : ℕ). put l.buffer c.args.at (bytes_of n l.rest)) none ∙ l.invariant
+    ∙ ap (λ (x : ℕ). put c.args.buffer.now c.args.at (bytes_of c.args.count x)) c.bits-rest.ensures

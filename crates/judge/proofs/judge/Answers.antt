@@ -1,26 +1,30 @@
 -- The sheet is refused, or it passes.
-use Rattle.std.proofs.Common.{sym, ◌∙◌, ne_eqb}
-use Rattle.refusals.proofs.FirstLaws.{number_refused, number_passes}
-use Rattle.sheet.proofs.Passed.{passed_sound}
-use Rattle.judge.proofs.JudgeLaws.{read_numbered, sheet_stops, sheet_goes_on}
+use Rattle.std.proofs.Common.{sym, ap, subst, ◌∙◌}
+use Rattle.std.proofs.lemmas.Result.{err_from_is_err_and}
+use Rattle.refusals.specs.Table.{passes}
+use Rattle.sheet.specs.declared.Sheet.{Sheet}
+use Rattle.carry.specs.Reaching.{Stands}
+use Rattle.judge.proofs.JudgeLaws.{sheet_stops, sheet_goes_on, same_sheet}
 use Rattle.judge.proofs.judge.Goals as goal
 
-pub returns-then-author-ne0-clause-result_value : goal.returns-then-author-ne0-clause-result_value
-returns-then-author-ne0-clause-result_value c =
-    let a = c.args in
-    let n = c.sheet_number-author.result in
-    let number = read_numbered c.read-read.result c.read-read.ensures c.sheet_number-author.ensures in
-    rw (ne_eqb n 0 c.if-author-ne0.true)
-    (sym (sheet_stops a.sheet.now a.state.now n (number_refused n c.read-read.result.sheet number c.if-author-ne0.true)))
+pub returns-in_err-material : goal.returns-in_err-material
+returns-in_err-material c =
+    let stops = sheet_stops c.args.sheet.now c.args.state.now _ (sym c.in_err-material.ensures) in
+    let exit = err_from_is_err_and c.from_residual.result c.from_residual.ensures.1 in
+    rw (exit.1, exit.2) (sym stops)
 
-pub judge_state-judged-requires : goal.judge_state-judged-requires
-judge_state-judged-requires c =
-    let number = read_numbered c.read-read.result c.read-read.ensures c.sheet_number-author.ensures in
-    (passed_sound c.args.sheet.now (number_passes c.sheet_number-author.result c.read-read.result.sheet number c.if-author-ne0.false)).1
+pub returns-in_err-standing : goal.returns-in_err-standing
+returns-in_err-standing c =
+    let stops = c.in_err-standing.ensures ∙ sheet_goes_on c.args.sheet.now c.args.state.now (sym c.in_ok-material.ensures) in
+    let exit = err_from_is_err_and c.from_residual-in_err-standing.result c.from_residual-in_err-standing.ensures.1 in
+    rw (exit.1, exit.2) stops
 
-pub returns-clause-result_value : goal.returns-clause-result_value
-returns-clause-result_value c =
-    let a = c.args in
-    let number = read_numbered c.read-read.result c.read-read.ensures c.sheet_number-author.ensures in
-    c.judge_state-judged.ensures.result_value
-    ∙ sheet_goes_on a.sheet.now a.state.now (number_passes c.sheet_number-author.result c.read-read.result.sheet number c.if-author-ne0.false)
+pub invariant_of-result : goal.invariant_of-result
+invariant_of-result c =
+    let standing = c.in_ok-standing.standing in
+    record { stands = subst (λ (h : Sheet). Stands h standing.reached) (sym (same_sheet _ _ c.in_ok-standing.ensures)) standing.stands }
+
+pub returns : goal.returns
+returns c =
+    ap (λ (h : Sheet). passes (record { sheet = h; rod = c.in_ok-standing.standing.reached.rod })) (same_sheet _ _ c.in_ok-standing.ensures)
+    ∙ c.in_ok-standing.ensures ∙ sheet_goes_on c.args.sheet.now c.args.state.now (sym c.in_ok-material.ensures)

@@ -11,8 +11,8 @@ unfolding reading_of
 returns-then-negative c =
     let negated : c.minus-stress.result ≡ grain (with_sign true c.at-reading.result.limit.0) =
     c.minus-stress.ensures.value ∙ ap (λ (g : Grain). grain (pos 0 -ℤ g.0)) c.of-limit.ensures.value ∙ ap grain (+ℤ_idl (neg_ℤ (pos c.at-reading.result.limit.0))) in
-    rw (c.if-negative.true, c.with_tangent.ensures, negated, c.of-variable.ensures.value, c.at-reading.ensures.value)
+    rw (c.if-negative.true, negated, c.of-variable.ensures.value, c.at-reading.ensures.value)
 
 pub returns : goal.returns
 unfolding reading_of
-returns c = rw (c.if-negative.false, c.with_tangent-2.ensures, c.of-variable.ensures.value, c.of-limit.ensures.value, c.at-reading.ensures.value)
+returns c = rw (c.if-negative.false, c.of-variable.ensures.value, c.of-limit.ensures.value, c.at-reading.ensures.value)

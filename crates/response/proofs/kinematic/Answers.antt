@@ -12,14 +12,14 @@ use Rattle.response.proofs.kinematic.Goals as goal
 pub returns-then-not-passes : goal.returns-then-not-passes
 returns-then-not-passes c =
     let size : c.magnitude-size.result.0 ≡ nat_abs (c.args.trial.0 -ℤ c.args.centre.0) = rw (c.magnitude-size.ensures, c.minus-distance.ensures.value) in
-    let within : c.magnitude-size.result.0 ≤ c.args.side.yield_stress.0 = search rules in
-    within_radius_elastic c.args.modulus.0 (tangent_of c.args.side 0) c.args.side.yield_stress.0 c.args.centre.0 c.args.trial.0 (rw size at within)
+    let within : c.magnitude-size.result.0 ≤ c.args.material.now.sheet.tension.yield_stress.0 = search rules in
+    within_radius_elastic c.args.material.now.sheet.modulus.0 (tangent_of c.args.material.now.sheet.tension 0) c.args.material.now.sheet.tension.yield_stress.0 c.args.centre.0 c.args.trial.0 (rw size at within)
 
 pub returns : goal.returns
 returns c =
     let size : c.magnitude-size.result.0 ≡ nat_abs (c.args.trial.0 -ℤ c.args.centre.0) = rw (c.magnitude-size.ensures, c.minus-distance.ensures.value) in
-    let past : c.args.side.yield_stress.0 < c.magnitude-size.result.0 = search rules in
-    let flowed : Flowed = record { stress = c.plus-stress.result; variable = c.plus-moved.result; tangent = modulus (tangent_of c.args.side 0) } in
+    let past : c.args.material.now.sheet.tension.yield_stress.0 < c.magnitude-size.result.0 = search rules in
+    let flowed : Flowed = record { stress = c.plus-stress.result; variable = c.plus-moved.result; tangent = modulus (tangent_of c.args.material.now.sheet.tension 0) } in
     let to = c.toward.ensures ∙ ap (λ (g : Grain). flow_toward (is_neg g.0) flowed) c.minus-distance.ensures.value in
     let negative : c.negative-negative.result ≡ is_neg (c.args.trial.0 -ℤ c.args.centre.0) = c.negative-negative.ensures ∙ ap (λ (g : Grain). is_neg g.0) c.minus-distance.ensures.value in
     rw (
@@ -33,4 +33,4 @@ returns c =
       negative,
       size,
     )
-    (past_radius_flows c.args.modulus.0 (tangent_of c.args.side 0) c.args.side.yield_stress.0 c.args.centre.0 c.args.trial.0 (rw size at past))
+    (past_radius_flows c.args.material.now.sheet.modulus.0 (tangent_of c.args.material.now.sheet.tension 0) c.args.material.now.sheet.tension.yield_stress.0 c.args.centre.0 c.args.trial.0 (rw size at past))

@@ -7,7 +7,7 @@ use Rattle.refusals.specs.Table.{passes}
 use Rattle.law.specs.declared.Law.{Law}
 use Rattle.units.specs.Kinds.{nano, tenths, grain}
 use Rattle.bits.specs.Layout.{field_at}
-use Rattle.bits.proofs.RangeLaws.{unsigned_if_out, unsigned_if_in, signed_if_out, signed_if_in, within_itself}
+use Rattle.bits.proofs.RangeLaws.{some_if_none, some_if_some, within_itself}
 use Rattle.bits.proofs.LayoutLaws.{word_of_field}
 use Rattle.rod.specs.Variables.{first_right, second_right}
 use Rattle.rod.specs.InRange.{counts_right}
@@ -27,43 +27,43 @@ counts s e f h = ap₂ (λ (y n : ℕ). counts_right (eqb y 1) n (state_of s).yi
 pub returns-in_default : goal.returns-in_default
 returns-in_default c =
     let s = c.args.s.now in
-    refused_by s 0 (sym (within_itself 0 (zero_bits s)) ∙ unsigned_if_out _ _ (sym c.in_default.ensures))
+    refused_by s 0 (sym (within_itself 0 (zero_bits s)) ∙ some_if_none _ _ (sym c.in_default.ensures))
 
-pub returns-in_default-strain : goal.returns-in_default-strain
-returns-in_default-strain c = refused_by _ 1 (signed_if_out _ _ (sym c.in_default-strain.ensures))
+pub returns-in_default-read_within : goal.returns-in_default-read_within
+returns-in_default-read_within c = refused_by _ 1 (some_if_none _ _ (sym c.in_default-read_within.ensures))
 
-pub returns-in_default-temperature : goal.returns-in_default-temperature
-returns-in_default-temperature c = refused_by _ 2 (signed_if_out _ _ (sym c.in_default-temperature.ensures))
+pub returns-in_default-read_within-2 : goal.returns-in_default-read_within-2
+returns-in_default-read_within-2 c = refused_by _ 2 (some_if_none _ _ (sym c.in_default-read_within-2.ensures))
 
-pub returns-in_default-stress : goal.returns-in_default-stress
-returns-in_default-stress c = refused_by _ 3 (signed_if_out _ _ (sym c.in_default-stress.ensures))
+pub returns-in_default-read_within-3 : goal.returns-in_default-read_within-3
+returns-in_default-read_within-3 c = refused_by _ 3 (some_if_none _ _ (sym c.in_default-read_within-3.ensures))
 
 pub returns-in_default-first : goal.returns-in_default-first
 returns-in_default-first c =
     let s = c.args.s.now in
-    refused_by s 4 (under s first_right (state_of s).first.0 c.law-law.ensures (signed_if_out _ _ (sym c.in_default-first.ensures)))
+    refused_by s 4 (under s first_right (state_of s).first.0 c.law-law.ensures (some_if_none _ _ (sym c.in_default-first.ensures)))
 
 pub returns-in_default-second : goal.returns-in_default-second
 returns-in_default-second c =
     let s = c.args.s.now in
-    refused_by s 5 (under s second_right (state_of s).second.0 c.law-law.ensures (signed_if_out _ _ (sym c.in_default-second.ensures)))
+    refused_by s 5 (under s second_right (state_of s).second.0 c.law-law.ensures (some_if_none _ _ (sym c.in_default-second.ensures)))
 
 pub returns-in_default-yielded_pairs : goal.returns-in_default-yielded_pairs
 returns-in_default-yielded_pairs c =
     let s = c.args.s.now in
-    refused_by s 6 (counts s c.read-yielded.ensures c.read-pairs.ensures (unsigned_if_out _ _ (sym c.in_default-yielded_pairs.ensures)))
+    refused_by s 6 (counts s c.read-mark.ensures c.read-pairs.ensures (some_if_none _ _ (sym c.in_default-yielded_pairs.ensures)))
 
 pub returns : goal.returns
 returns c =
     let s = c.args.s.now in
     let law = c.law-law.ensures in
-    let zero = unsigned_if_in _ _ (sym c.in-Value.ensures) in
-    let strain = signed_if_in _ _ (sym c.in-Value-strain.ensures) in
-    let temperature = signed_if_in _ _ (sym c.in-Value-temperature.ensures) in
-    let stress = signed_if_in _ _ (sym c.in-Value-stress.ensures) in
-    let first = signed_if_in _ _ (sym c.in-Value-first.ensures) in
-    let second = signed_if_in _ _ (sym c.in-Value-second.ensures) in
-    let k = unsigned_if_in _ _ (sym c.in-Value-yielded_pairs.ensures) in
+    let zero = some_if_some _ _ (sym c.in-Some.ensures) in
+    let strain = some_if_some _ _ (sym c.in-Some-read_within.ensures) in
+    let temperature = some_if_some _ _ (sym c.in-Some-read_within-2.ensures) in
+    let stress = some_if_some _ _ (sym c.in-Some-read_within-3.ensures) in
+    let first = some_if_some _ _ (sym c.in-Some-first.ensures) in
+    let second = some_if_some _ _ (sym c.in-Some-second.ensures) in
+    let k = some_if_some _ _ (sym c.in-Some-yielded_pairs.ensures) in
     let strain_is = word_of_field s 8 32 (omega arith, omega arith) strain.1 in
     let temperature_is = word_of_field s 40 16 (omega arith, omega arith) temperature.1 in
     let stress_is = word_of_field s 56 48 (omega arith, omega arith) stress.1 in
@@ -72,11 +72,11 @@ returns c =
     let zero_right = sym (within_itself 0 (zero_bits s)) ∙ zero.0 in
     let first_holds = under s first_right (state_of s).first.0 law first.0 in
     let second_holds = under s second_right (state_of s).second.0 law second.0 in
-    let counts_hold = counts s c.read-yielded.ensures c.read-pairs.ensures k.0 in
+    let counts_hold = counts s c.read-mark.ensures c.read-pairs.ensures k.0 in
     ap passes
     (λ i. record {
       law = law i;
-      yielded = eqb (c.read-yielded.ensures i) 1;
+      yielded = eqb (c.read-mark.ensures i) 1;
       strain = nano (strain_is i);
       temperature = tenths (temperature_is i);
       stress = grain (stress_is i);

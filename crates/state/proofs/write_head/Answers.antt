@@ -10,6 +10,6 @@ returns c =
     let strain = passed 32 r.strain.0 fits.strain (omega arith) in
     let temperature = passed 16 r.temperature.0 fits.temperature (omega arith) in
     let stress = passed 48 r.stress.0 fits.stress (omega arith) in
-    rw (c.write_signed-3.ensures, c.write_signed-2.ensures, c.write_signed.ensures)
-    (rw (c.write.ensures, c.front-front.ensures, strain, temperature, stress)
+    rw (c.write-4.ensures, c.write-3.ensures, c.write-2.ensures)
+    (rw (c.write.ensures, c.front.ensures, strain, temperature, stress)
     (put_head r fits c.args.buffer.now c.args.at c.requires.0))

@@ -9,5 +9,5 @@ returns c =
     let fits = c.requires.1 in
     let first = passed 64 r.first.0 fits.first (omega arith) in
     let second = passed 64 r.second.0 fits.second (omega arith) in
-    rw (c.write-2.ensures, c.write.ensures, c.write_signed-2.ensures, c.write_signed.ensures, first, second)
+    rw (c.write-4.ensures, c.write-3.ensures, c.write-2.ensures, c.write.ensures, first, second)
     (put_tail r fits c.args.buffer.now c.args.at c.requires.0)

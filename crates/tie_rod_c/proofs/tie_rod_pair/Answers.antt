@@ -1,9 +1,10 @@
+use Rattle.std.proofs.Common.{arith}
 use Rattle.tie_rod.specs.Calls.{call, single}
 use Rattle.tie_rod.proofs.Numbers.{reply_small, call_small}
 use Rattle.tie_rod_c.proofs.tie_rod_pair.Goals as goal
 
-pub pack-requires : goal.pack-requires
-pack-requires c =
+pub in_one_number-requires : goal.in_one_number-requires
+in_one_number-requires c =
     let a = c.args in
     let small = reply_small c.pair_bytes.ensures (call_small a.sheet.now a.state.now (call single a.pair.now a.rows.now a.next.now)) in
-    (small.number.0, small.place)
+    omega (arith, small.place)

@@ -1,49 +1,75 @@
-use Rattle.std.proofs.Common.{ℕ, ℤ, ◌≤◌, ◌≡◌, List, length, sym, ap, subst, ◌∙◌}
+use Rattle.std.proofs.Common.{ℤ, ◌≤◌, ◌≡◌, List, ℕ, length, sym, ap, subst, ◌∙◌}
+use Rattle.std.proofs.lemmas.Result.{err_from_is_err_and}
 use mir.Facts.{to_z-of_z}
-use Rattle.refusals.specs.Table.{passes, numbered, first_of}
-use Rattle.refusals.proofs.FirstLaws.{number_refused, number_passes}
+use Rattle.refusals.specs.Table.{passes, refused, first_of}
+use Rattle.refusals.specs.Reasons.{number_of}
+use Rattle.refusals.proofs.FirstLaws.{refused_anyhow, passes_anyhow}
+use Rattle.refusals.proofs.ReasonLaws.{reason_numbered}
 use Rattle.ranges.specs.Ranges.{most_pairs}
 use Rattle.pair.specs.Pairs.{list_refusals}
 use Rattle.carry.specs.Walk.{walk}
+use Rattle.judge.proofs.JudgeLaws.{judged_stand}
 use Rattle.tie_rod.specs.Calls.{run, count_in, pairs_in}
 use Rattle.tie_rod.proofs.CallLaws.{list_counts}
-use Rattle.grade.specs.declared.Compared.{Compared}
-use Rattle.grade.specs.Grades.{grading, grading_refusals}
-use Rattle.grade.specs.Comparing.{compared_of, settled}
-use Rattle.grade.proofs.GradeLaws.{standing_stops, list_stops, list_walked, settled_is}
+use Rattle.grade.specs.Grades.{grading, grading_refusals, row_told, verdict, verdict_by}
+use Rattle.grade.specs.Comparing.{compared_of}
+use Rattle.grade.proofs.GradeLaws.{list_stops, list_walked, compared_refused, compared_last}
 use Rattle.grade.proofs.entry.grade.Goals as goal
 
 -- A list that passes has not too many pairs.
 few : (pairs : List ℕ) {n : ℕ} → first_of (list_refusals (length pairs)) (count_in pairs) ≡ passes n → count_in pairs ≤ most_pairs
 few pairs listed = let counted = list_counts run (length pairs) listed in subst (λ (n : ℕ). n ≤ most_pairs) counted.0 counted.1
 
-pub returns-then-holder-ne0-clause-result_value : goal.returns-then-holder-ne0-clause-result_value
-returns-then-holder-ne0-clause-result_value c =
+pub returns-in_err-count-clause-result_value : goal.returns-in_err-count-clause-result_value
+returns-in_err-count-clause-result_value c =
     let a = c.args in
-    sym (standing_stops a.sheet.now a.state.now (grading a.pairs.now a.rows.now a.tolerance) (number_refused _ _ c.judge-standing.ensures.result_value c.if-holder-ne0.true))
+    let stops = list_stops a.sheet.now a.state.now (grading a.pairs.now a.rows.now a.tolerance) (sym c.in_ok-judged.ensures) (sym c.in_err-count.ensures) in
+    let exit = err_from_is_err_and c.from_residual-in_err-count.result c.from_residual-in_err-count.ensures.1 in
+    rw (exit.1, exit.2) (sym stops)
 
-pub returns-in_default-clause-result_value : goal.returns-in_default-clause-result_value
-returns-in_default-clause-result_value c =
+pub compare-requires : goal.compare-requires
+compare-requires c = few c.args.pairs.now (sym c.in_ok-count.ensures)
+
+pub returns-in_err-compared-clause-result_value : goal.returns-in_err-compared-clause-result_value
+returns-in_err-compared-clause-result_value c =
     let a = c.args in
-    let standing = number_passes _ _ c.judge-standing.ensures.result_value c.if-holder-ne0.false in
-    sym (list_stops a.sheet.now a.state.now (grading a.pairs.now a.rows.now a.tolerance) standing (sym c.in_default.ensures))
+    let g = grading a.pairs.now a.rows.now a.tolerance in
+    let walked = walk c.standing.result.material.now.sheet c.standing.result.reached.rod (pairs_in a.pairs.now) in
+    let reason = c.in_err-compared.field-0.0.reason in
+    let told = c.in_err-compared.ensures.told ∙ ap (λ (d : ℤ). compared_of d a.rows.now walked) (to_z-of_z c.ranges.tolerance) in
+    let exit = err_from_is_err_and c.from_residual-in_err-compared.result c.from_residual-in_err-compared.ensures.1 in
+    rw (exit.1, exit.2)
+    (compared_refused g walked (reason_numbered reason).0 told
+    ∙ sym (list_walked a.sheet.now a.state.now g (judged_stand _ _ c.in_ok-judged.ensures c.standing.ensures.material c.standing.ensures.reached) (sym c.in_ok-count.ensures)))
 
-pub own_number-own-requires : goal.own_number-own-requires
-own_number-own-requires c = few c.args.pairs.now (sym c.in-Pairs.ensures)
+pub check-requires : goal.check-requires
+check-requires c = few c.args.pairs.now (sym c.in_ok-count.ensures)
 
-pub compare-compared-requires : goal.compare-compared-requires
-compare-compared-requires c = (c.judge-standing.ensures.stands c.if-holder-ne0.false, few c.args.pairs.now (sym c.in-Pairs.ensures))
+pub returns-in_err-check-clause-result_value : goal.returns-in_err-check-clause-result_value
+returns-in_err-check-clause-result_value c =
+    let a = c.args in
+    let g = grading a.pairs.now a.rows.now a.tolerance in
+    let walked = walk c.standing.result.material.now.sheet c.standing.result.reached.rod (pairs_in a.pairs.now) in
+    let n = number_of c.in_err-check.field-0.0 in
+    let same = to_z-of_z c.ranges.tolerance in
+    let told = c.in_ok-compared.ensures.told ∙ ap (λ (d : ℤ). compared_of d a.rows.now walked) same in
+    let own : refused n ≡ first_of (grading_refusals g) a.tolerance =
+    subst (λ (d : ℤ). refused n ≡ first_of (grading_refusals (grading a.pairs.now a.rows.now d)) d) same c.in_err-check.ensures in
+    let stops = refused_anyhow (grading_refusals g) a.tolerance (verdict 0 0 (row_told c.in_ok-compared.compared)) n (sym own) in
+    let exit = err_from_is_err_and c.from_residual-in_err-check.result c.from_residual-in_err-check.ensures.1 in
+    rw (exit.1, exit.2)
+    (ap verdict_by (sym stops) ∙ compared_last g walked told
+    ∙ sym (list_walked a.sheet.now a.state.now g (judged_stand _ _ c.in_ok-judged.ensures c.standing.ensures.material c.standing.ensures.reached) (sym c.in_ok-count.ensures)))
 
 pub returns-clause-result_value : goal.returns-clause-result_value
 returns-clause-result_value c =
     let a = c.args in
     let g = grading a.pairs.now a.rows.now a.tolerance in
-    let n = c.own_number-own.result in
-    let walked = walk c.judge-standing.result.sheet c.judge-standing.result.reached.rod (pairs_in a.pairs.now) in
-    let standing = number_passes _ _ c.judge-standing.ensures.result_value c.if-holder-ne0.false in
+    let walked = walk c.standing.result.material.now.sheet c.standing.result.reached.rod (pairs_in a.pairs.now) in
     let same = to_z-of_z c.ranges.tolerance in
-    let compared = c.compare-compared.ensures ∙ ap (λ (d : ℤ). compared_of d a.rows.now walked) same in
-    let told : numbered n a.tolerance ≡ first_of (grading_refusals g) a.tolerance =
-    subst (λ (d : ℤ). numbered n d ≡ first_of (grading_refusals (grading a.pairs.now a.rows.now d)) d) same c.own_number-own.ensures in
-    c.verdict.ensures.result_value ∙ ap (λ (x : Compared). settled x n) compared ∙ settled_is g walked n a.tolerance told
-    ∙ sym (list_walked a.sheet.now a.state.now g standing (sym c.in-Pairs.ensures))
+    let told = c.in_ok-compared.ensures.told ∙ ap (λ (d : ℤ). compared_of d a.rows.now walked) same in
+    let own : passes a.tolerance ≡ first_of (grading_refusals g) a.tolerance =
+    subst (λ (d : ℤ). passes d ≡ first_of (grading_refusals (grading a.pairs.now a.rows.now d)) d) same c.in_ok-check.ensures in
+    let all = passes_anyhow (grading_refusals g) a.tolerance (verdict 0 0 (row_told c.in_ok-compared.compared)) (sym own) in
+    ap verdict_by (sym all) ∙ compared_last g walked told
+    ∙ sym (list_walked a.sheet.now a.state.now g (judged_stand _ _ c.in_ok-judged.ensures c.standing.ensures.material c.standing.ensures.reached) (sym c.in_ok-count.ensures))

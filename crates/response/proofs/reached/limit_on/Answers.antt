@@ -7,5 +7,5 @@ use Rattle.response.proofs.reached.limit_on.Goals as goal
 pub returns : goal.returns
 unfolding reading_of
 returns c =
-    ap (λ (r : Reading). r.limit) c.at-reading.ensures.value
-    ∙ ap (λ (m : Magnitude). (reading_of c.args.side c.args.modulus m).limit) c.magnitude.ensures
+    ap (λ (r : Reading). r.limit) c.at.ensures.value
+    ∙ ap (λ (m : Magnitude). (reading_of c.args.curve.side.now c.args.curve.modulus m).limit) c.magnitude.ensures

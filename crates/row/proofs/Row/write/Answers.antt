@@ -11,5 +11,5 @@ returns c =
     let fits = c.requires.1 in
     let stress = passed (width_at row_layout 3) r.stress.0 fits.stress (omega arith) in
     let plastic = passed (width_at row_layout 4) r.plastic.0 fits.plastic (omega arith) in
-    rw (c.write.ensures, c.front-front.ensures, c.write_signed-2.ensures, c.write_signed.ensures, stress, plastic)
+    rw (c.write-3.ensures, c.front.ensures, c.write-2.ensures, c.write.ensures, stress, plastic)
     (put_row r fits c.args.buffer.now c.args.at c.requires.0)

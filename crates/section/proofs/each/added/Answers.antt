@@ -55,28 +55,28 @@ moment_kept c = to_z-of_z (moment_fits c) ∙ moment_is c
 
 -- The sums: what the tally holds and one part more.
 forces_are : (c : After-cut) → let a = c.args in
-    stored a.tally.force +ℤ stored (stored c.cut.result *ℤ to_z w64 a.member.area) ≡ a.tally.force +ℤ force_of a.member a.stress.0
-forces_are c = ap₂ ◌+ℤ◌ (to_z-of_z {w = w64} {z = c.args.tally.force} (search rules)) (force_kept c)
+    stored a.sums.force +ℤ stored (stored c.cut.result *ℤ to_z w64 a.member.area) ≡ a.sums.force +ℤ force_of a.member a.stress.0
+forces_are c = ap₂ ◌+ℤ◌ (to_z-of_z {w = w64} {z = c.args.sums.force} (search rules)) (force_kept c)
 
-forces_fit : (c : After-cut) → let a = c.args in SFits w64 (stored a.tally.force +ℤ stored (stored c.cut.result *ℤ to_z w64 a.member.area))
+forces_fit : (c : After-cut) → let a = c.args in SFits w64 (stored a.sums.force +ℤ stored (stored c.cut.result *ℤ to_z w64 a.member.area))
 forces_fit c =
     let a = c.args in
     let room = c.requires.0 in
     subst (SFits w64) (sym (forces_are c))
-    (fits_of_magnitude _ (omega (arith, magnitude_sum a.tally.force (force_of a.member a.stress.0), room.seen, room.force, force_magnitude a.member a.stress.0 c.requires.1 c.requires.2, force_most a.member a.stress.0 c.requires.1 c.requires.2)))
+    (fits_of_magnitude _ (omega (arith, magnitude_sum a.sums.force (force_of a.member a.stress.0), room.seen, room.force, force_magnitude a.member a.stress.0 c.requires.1 c.requires.2, force_most a.member a.stress.0 c.requires.1 c.requires.2)))
 
 moments_are : (c : After-cut) → let a = c.args in
-    stored a.tally.moment +ℤ stored (stored (stored c.cut.result *ℤ to_z w64 a.member.area) *ℤ stored a.member.offset)
-    ≡ a.tally.moment +ℤ moment_of a.member a.stress.0
-moments_are c = ap₂ ◌+ℤ◌ (to_z-of_z {w = w64} {z = c.args.tally.moment} (search rules)) (moment_kept c)
+    stored a.sums.moment +ℤ stored (stored (stored c.cut.result *ℤ to_z w64 a.member.area) *ℤ stored a.member.offset)
+    ≡ a.sums.moment +ℤ moment_of a.member a.stress.0
+moments_are c = ap₂ ◌+ℤ◌ (to_z-of_z {w = w64} {z = c.args.sums.moment} (search rules)) (moment_kept c)
 
 moments_fit : (c : After-cut) → let a = c.args in
-    SFits w64 (stored a.tally.moment +ℤ stored (stored (stored c.cut.result *ℤ to_z w64 a.member.area) *ℤ stored a.member.offset))
+    SFits w64 (stored a.sums.moment +ℤ stored (stored (stored c.cut.result *ℤ to_z w64 a.member.area) *ℤ stored a.member.offset))
 moments_fit c =
     let a = c.args in
     let room = c.requires.0 in
     subst (SFits w64) (sym (moments_are c))
-    (fits_of_magnitude _ (omega (arith, magnitude_sum a.tally.moment (moment_of a.member a.stress.0), room.seen, room.moment, moment_magnitude a.member a.stress.0 c.requires.1 c.requires.2, moment_most a.member a.stress.0 c.requires.1 c.requires.2)))
+    (fits_of_magnitude _ (omega (arith, magnitude_sum a.sums.moment (moment_of a.member a.stress.0), room.seen, room.moment, moment_magnitude a.member a.stress.0 c.requires.1 c.requires.2, moment_most a.member a.stress.0 c.requires.1 c.requires.2)))
 
 pub overflow_add-result : goal.overflow_add-result
 overflow_add-result c = forces_fit (goal.at.overflow_add-result c).After-cut
@@ -89,4 +89,4 @@ returns c =
     let cut = (goal.at.returns c).After-cut in
     let force = to_z-of_z (forces_fit cut) ∙ forces_are cut in
     let moment = to_z-of_z (moments_fit cut) ∙ moments_are cut in
-    λ i. record { number = 0; place = 0; force = force i; moment = moment i; seen = c.args.tally.seen + 1 }
+    λ i. record { number = 0; place = 0; force = force i; moment = moment i; seen = c.args.sums.seen + 1 }

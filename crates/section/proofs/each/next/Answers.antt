@@ -1,8 +1,6 @@
 use Rattle.std.proofs.Common.{sym, ap, subst}
 use Rattle.state.specs.States.{StateFits}
 use Rattle.carry.specs.declared.Reached.{Reached}
-use Rattle.carry.proofs.ReachedLaws.{tried_accepted}
-use Rattle.section.specs.Sections.{member_answer}
 use Rattle.section.proofs.MemberLaws.{member_passed}
 use Rattle.section.proofs.each.next.Goals as goal
 
@@ -10,5 +8,4 @@ use Rattle.section.proofs.each.next.Goals as goal
 pub with_state-requires : goal.with_state-requires
 with_state-requires c =
     let x = c.args.movement in
-    let leads = tried_accepted x.sheet (member_answer x.sheet x.change c.args.member) c.in-Accepted.ensures in
-    subst StateFits (sym (ap (λ (r : Reached). r.rod) c.keep-kept.ensures)) (member_passed x.sheet x.change c.args.member c.requires.sound leads.answer).next.fits
+    subst StateFits (sym (ap (λ (r : Reached). r.rod) c.keep.ensures.reached)) (member_passed x.material.sheet x.change c.args.member x.material.sound (sym c.in-Ok.ensures)).next.fits

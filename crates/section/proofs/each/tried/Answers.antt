@@ -1,51 +1,44 @@
-use Rattle.std.proofs.Common.{◌≡◌, false, sym, ap, ◌∙◌}
+use Rattle.std.proofs.Common.{◌≡◌, ℕ, List, false, sym, ap, ◌∙◌}
+use Rattle.std.proofs.lemmas.Result.{err_from_is_err_and}
 use Rattle.refusals.specs.Table.{passes, first_of}
-use Rattle.refusals.proofs.FirstLaws.{passes_given, number_refused, number_passes}
+use Rattle.refusals.proofs.FirstLaws.{passes_given}
+use Rattle.sheet.specs.declared.Sheet.{Sheet}
 use Rattle.pair.specs.Pairs.{pair_in_range}
 use Rattle.state.specs.States.{state_of}
 use Rattle.rod.specs.Steps.{advance_of, step_refusals}
-use Rattle.carry.specs.Reaching.{with_reached}
 use Rattle.judge.specs.Standing.{Ready, holder_refusals}
+use Rattle.judge.proofs.JudgeLaws.{same_sheet}
 use Rattle.section.specs.Sections.{member_pair}
 use Rattle.section.proofs.MemberLaws.{state_stops, pair_stops, step_decides}
 use Rattle.section.proofs.each.tried.Goals as goal
-use Rattle.section.proofs.each.tried.Goals.{Start, Else-holder-ne0}
 
--- What the arguments make of a state, which the state's table is asked about
-abbrev ready : Start → Ready
-ready c = record { sheet = c.args.movement.sheet; rod = state_of c.args.member.state }
+-- The rod that passes is the one that the state holds.
+same_rod : (h : Sheet) (s : List ℕ) {x : Ready} → passes x ≡ first_of {A = Ready} (holder_refusals h s) (record { sheet = h; rod = state_of s })
+    → state_of s ≡ x.rod
+same_rod h s e = ap (λ (x : Ready). x.rod) (passes_given _ _ (sym e))
 
--- The state passes
-state_passed : (c : Else-holder-ne0) → let h = c.args.movement.sheet in let s = c.args.member.state in
-    first_of {A = Ready} (holder_refusals h s) (record { sheet = h; rod = state_of s }) ≡ passes (record { sheet = h; rod = c.judge_state-judged.result.reached.rod })
-state_passed c = number_passes c.judge_state-judged.result.number _ c.judge_state-judged.ensures.result_value c.if-holder-ne0.false
-
--- And is the rod that was judged
-same_rod : (c : Else-holder-ne0) → state_of c.args.member.state ≡ c.judge_state-judged.result.reached.rod
-same_rod c = ap (λ (x : Ready). x.rod) (passes_given _ _ (state_passed c))
-
-pub returns-then-holder-ne0 : goal.returns-then-holder-ne0
-returns-then-holder-ne0 c =
+pub returns-in_err-standing : goal.returns-in_err-standing
+returns-in_err-standing c =
     let a = c.args in
-    ap (with_reached a.movement.sheet) (sym (state_stops a.movement.sheet a.movement.change a.member (ready (goal.at.returns-then-holder-ne0 c).Start)
-    (number_refused c.judge_state-judged.result.number _ c.judge_state-judged.ensures.result_value c.if-holder-ne0.true)))
+    let p = err_from_is_err_and c.from_residual.result c.from_residual.ensures.1 in
+    rw (p.1, p.2) (sym (state_stops a.movement.now.material.sheet a.movement.now.change a.member _ (sym c.in_err-standing.ensures)))
 
 pub returns-then-not-in_range : goal.returns-then-not-in_range
 returns-then-not-in_range c =
     let a = c.args in
-    let at = goal.at.returns-then-not-in_range c in
-    let out : pair_in_range (member_pair a.movement.change a.member) ≡ false =
+    let out : pair_in_range (member_pair a.movement.now.change a.member) ≡ false =
     ap pair_in_range (sym c.pair_at-pair.ensures) ∙ sym c.in_range.ensures ∙ c.if-not-in_range.true in
-    ap (with_reached a.movement.sheet) (sym (pair_stops a.movement.sheet a.movement.change a.member (ready at.Start) (state_passed at.Else-holder-ne0) out))
+    sym (pair_stops a.movement.now.material.sheet a.movement.now.change a.member _ (sym c.in_ok-standing.ensures) out)
 
 -- What trying the pair answers is the member's answer
 pub returns : goal.returns
 returns c =
     let a = c.args in
-    let h = a.movement.sheet in
-    let passed = (goal.at.returns c).Else-holder-ne0 in
+    let h = a.movement.now.material.sheet in
+    let same = same_rod h a.member.state c.in_ok-standing.ensures in
+    let sheet = same_sheet h a.member.state c.in_ok-standing.ensures in
     let is = c.pair_at-pair.ensures in
     let right = ap pair_in_range (sym is) ∙ sym c.in_range.ensures ∙ c.if-not-in_range.false in
-    c.trial.ensures
-    ∙ ap (with_reached h) ((λ i. first_of (step_refusals h (sym (same_rod passed) i) (is i)) (advance_of h (sym (same_rod passed) i) (is i)))
-    ∙ sym (step_decides h a.movement.change a.member (ready (goal.at.returns c).Start) (state_passed passed) right))
+    c.trial.ensures.told
+    ∙ (λ i. first_of (step_refusals (sym sheet i) (sym same i) (is i)) (advance_of (sym sheet i) (sym same i) (is i)))
+    ∙ sym (step_decides h a.movement.now.change a.member _ (sym c.in_ok-standing.ensures) right)

@@ -1,7 +1,0 @@
-use Rattle.std.proofs.Common.{refl}
-use Rattle.sheet.specs.Sheets.{placed}
-use Rattle.sheet.proofs.no_points.Goals as goal
-
-pub returns : goal.returns
-unfolding placed
-returns c = refl

@@ -1,0 +1,70 @@
+// A sheet that passed, how it is read, and its thermal strain.
+ghost use Rattle.sheet.specs.Sound.{SheetSound};
+
+use crate::Sheet;
+use curve::traction::TractionCurve;
+use refusals::Reason;
+use units::{Nano, Quantity, Scaled, Tenths};
+
+// A sheet that passed (SPEC 3.10): what the laws use of it holds.
+#[derive(Clone, Copy)]
+pub struct Material {
+    pub sheet: Sheet,
+    pub ghost sound: { SheetSound sheet },
+}
+
+impl Material {
+    ghost use Rattle.std.specs.Prelude.{◌≡◌, true, ◌≤◌, nat_abs};
+    ghost use Rattle.refusals.specs.Table.{first_of};
+    ghost use Rattle.refusals.specs.Reasons.{answer_by};
+    ghost use Rattle.ranges.specs.Ranges.{temperature_right};
+    ghost use Rattle.units.specs.Kinds.{nano};
+    ghost use Rattle.law.specs.declared.Law.TheVariants.{Asymmetric};
+    ghost use Rattle.sheet.specs.Sheets.{sheet_refusals, sheet_of};
+    ghost use Rattle.sheet.specs.Thermal.{thermal_of};
+
+    // Reads any bytes: the sheet, or why it is refused.
+    #[tactic(auto, using(crate::proofs::Passed::passed_sound))]
+    pub fn read(s: &[u8]) -> Result<Material, Reason>
+        ensures { answer_by (λ (m : Material). m.sheet) result ≡ first_of (sheet_refusals s.now) (sheet_of s.now) }
+    {
+        let sheet = crate::read(s)?;
+        Ok(Material { sheet })
+    }
+
+    // The thermal strain at a temperature (SPEC 5.1).
+    pub fn thermal(&self, temperature: Tenths) -> Nano
+        requires { temperature_right temperature.0 ≡ true }
+        ensures value { result ≡ nano (thermal_of self.now.sheet temperature.0) }
+        ensures most { nat_abs result.0 ≤ 400000000 }
+    {
+        temperature
+            .minus(self.sheet.reference)
+            .times(self.sheet.expansion.at(temperature))
+    }
+
+    // The traction curve in tension.
+    #[tactic(auto, using(crate::proofs::SideReadable::side_readable))]
+    pub fn tension(&self) -> TractionCurve<'_>
+        ensures side { result.side.now ≡ self.now.sheet.tension }
+        ensures modulus { result.modulus ≡ self.now.sheet.modulus }
+    {
+        TractionCurve {
+            side: &self.sheet.tension,
+            modulus: self.sheet.modulus,
+        }
+    }
+
+    // The traction curve in compression, which law 3 alone has.
+    #[tactic(auto, using(crate::proofs::SideReadable::side_readable))]
+    pub fn compression(&self) -> TractionCurve<'_>
+        requires { self.now.sheet.law ≡ Asymmetric }
+        ensures side { result.side.now ≡ self.now.sheet.compression }
+        ensures modulus { result.modulus ≡ self.now.sheet.modulus }
+    {
+        TractionCurve {
+            side: &self.sheet.compression,
+            modulus: self.sheet.modulus,
+        }
+    }
+}
