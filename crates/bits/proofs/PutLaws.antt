@@ -23,17 +23,31 @@ pub put_whole : (buffer bytes : List ℕ) → length buffer ≡ length bytes →
 unfolding put
 put_whole buffer bytes e = ap (λ (l : List ℕ). bytes ++ l) (drop_of_length-le buffer {i = 0 + length bytes} (omega (arith, e))) ∙ append-nil bytes
 
--- Bytes copied into the part of a buffer that is as long as they are.
+-- Bytes that fill the part of a buffer that was cut out for them.
+pub put_cut : (buffer bytes : List ℕ) (at to : ℕ) {part : List ℕ} → at ≤ to → length bytes ≡ to - at → part ≡ bytes
+    → put_mid at (to - at) buffer part ≡ put buffer at bytes
+unfolding put
+put_cut buffer bytes at to order long is =
+    let end : to ≡ at + length bytes = omega arith in
+    ap₂ (λ (p q : List ℕ). take at buffer ++ (p ++ q)) is (Post-is at to buffer order ∙ ap (λ (k : ℕ). drop k buffer) end)
+
+-- A number written into such a part.
+pub put_number : (buffer : List ℕ) (at n : ℕ) (bits : ℕ → ℕ) {part : List ℕ} → at + n ≤ length buffer
+    → part ≡ bytes_of (length (mid_of at (at + n - at) buffer)) (bits (length (mid_of at (at + n - at) buffer)))
+    → put_mid at (at + n - at) buffer part ≡ put buffer at (bytes_of n (bits n))
+put_number buffer at n bits room is =
+    let long : length (mid_of at (at + n - at) buffer) ≡ n = mid_len at (at + n) buffer room ∙ omega arith in
+    put_cut buffer (bytes_of n (bits n)) at (at + n) (omega arith) (length_bytes_of n (bits n) ∙ omega arith) (is ∙ ap (λ (k : ℕ). bytes_of k (bits k)) long)
+
+-- Bytes copied into it.
 pub put_part : (buffer bytes part : List ℕ) (at : ℕ) → at + length bytes ≤ length buffer
     → part ≡ take (length bytes) bytes ++ drop (length bytes) (mid_of at (at + length bytes - at) buffer)
     → put_mid at (at + length bytes - at) buffer part ≡ put buffer at bytes
-unfolding put
 put_part buffer bytes part at room h =
     let end = at + length bytes in
     let all : drop (length bytes) (mid_of at (end - at) buffer) ≡ [] =
     drop_of_length-le (mid_of at (end - at) buffer) {i = length bytes} (omega (arith, mid_len at end buffer room)) in
-    let is : part ≡ bytes = h ∙ ap₂ (λ (p q : List ℕ). p ++ q) (take-length bytes) all ∙ append-nil bytes in
-    ap₂ (λ (p q : List ℕ). take at buffer ++ (p ++ q)) is (Post-is at end buffer (omega arith))
+    put_cut buffer bytes at end (omega arith) (omega arith) (h ∙ ap₂ (λ (p q : List ℕ). p ++ q) (take-length bytes) all ∙ append-nil bytes)
 
 pub length_put : (buffer : List ℕ) (at : ℕ) (bytes : List ℕ) → at + length bytes ≤ length buffer → length (put buffer at bytes) ≡ length buffer
 unfolding put

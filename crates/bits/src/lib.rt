@@ -5,7 +5,7 @@
 mod number; // number.rt: the numbers that a field can hold
 mod word; // word.rt: fields read by bytes
 
-ghost use Rattle.std.specs.Prelude.{◌≡◌, ◌+◌, ◌^◌, ◌≤◌, ◌<◌, length};
+ghost use Rattle.std.specs.Prelude.{◌≡◌, ◌+◌, ◌/◌, ◌%◌, ◌^◌, ◌≤◌, ◌<◌, eqb, length};
 ghost use Rattle.bits.specs.Field.{field, some_if};
 ghost use Rattle.bits.specs.Layout.{bytes_of, put};
 
@@ -20,7 +20,7 @@ pub struct Field {
     ghost near: { at < 2 ^ 59 },
 }
 
-// The least and the most that a number may be, both included.
+// The least and the most that a number may be, both included. Not a RangeInclusive, which is no Copy and counts where it stands.
 #[derive(Clone, Copy)]
 pub struct Bounds<N> {
     pub least: N,
@@ -67,18 +67,38 @@ impl Field {
         let x = self.read(s);
         if bounds.hold(x) { Some(x) } else { None }
     }
+
+    // Whether a mark, which is a field of one bit, is a yes.
+    pub fn is_set(self, s: &[u8]) -> bool
+        requires { self.width ≡ 1 }
+        ensures { result ≡ eqb (field s.now self.at self.width) 1 }
+    {
+        self.read::<u64>(s) == 1
+    }
+
+    // Writes a field of whole bytes where it stands in a lent buffer.
+    pub fn write<N: Number>(self, buffer: &mut [u8], x: N)
+        requires whole { (self.at % 8 ≡ 0) × (self.width % 8 ≡ 0) }
+        requires room { self.at / 8 + self.width / 8 ≤ length buffer.old }
+        requires held { N.Held (self.width / 8) x }
+        ensures { buffer.new ≡ put buffer.old (self.at / 8) (bytes_of (self.width / 8) (N.bits (self.width / 8) x)) }
+    {
+        let from = self.at / 8;
+        let to = from + self.width / 8;
+        write(&mut buffer[from..to], x);
+    }
 }
 
-// Writes the last `count` bytes of a number at a place of a lent buffer; a signed one stands there in two's complement. A place, and no part
-// of the buffer cut out, since a row's last eight bytes reach into the part of its stress.
-pub fn write<N: Number>(buffer: &mut [u8], at: usize, count: usize, x: N)
-    requires room { at + count ≤ length buffer.old }
-    requires held { N.Held count x }
-    ensures { buffer.new ≡ put buffer.old at (bytes_of count (N.bits count x)) }
+// Fills a part of a lent buffer with a number, its most significant byte first; a signed one stands there in two's complement.
+pub fn write<N: Number>(part: &mut [u8], x: N)
+    requires held { N.Held (length part.old) x }
+    ensures { part.new ≡ bytes_of (length part.old) (N.bits (length part.old) x) }
 {
+    let count = part.len();
     let mut rest = x.bits(count);
-    for done in 0..count {
-        buffer[at + (count - 1 - done)] = (rest % 256) as u8;
+    // By index: of a slice that `iter_mut().rev()` went through nothing is known.
+    for i in (0..count).rev() {
+        part[i] = (rest % 256) as u8;
         rest /= 256;
     }
 }

@@ -6,7 +6,7 @@ pub trait Number: Copy {
     // The widths of fields that it can be read from.
     ghost Wide: { ℕ → Type 0 };
 
-    // The number of a field of some width, from its bits.
+    // The number of a field of some width, from its bits; a bare width, as in word.rt.
     ghost number: { ℕ → ℕ → Self };
 
     // Whether so many bytes can hold a number.
@@ -15,7 +15,7 @@ pub trait Number: Copy {
     // Its bits in so many bytes.
     ghost bits: { ℕ → Self → ℕ };
 
-    // Whether it lies from the first to the second.
+    // Whether it lies from the first to the second, each kind by the order of its own numbers.
     ghost lies: { Self → Self → Self → Bool };
 
     fn number(x: u64, width: usize) -> Self
@@ -66,6 +66,7 @@ impl Number for i64 {
 
     ghost lies = { withinℤ };
 
+    #[tactic(auto, using(crate::proofs::SignLaws::held_as, crate::proofs::SignLaws::twos_of_word))]
     fn number(x: u64, width: usize) -> i64 {
         if width < 64 {
             return narrow_number(x, width);

@@ -15,6 +15,7 @@ fn number(s: &[u8], from: usize, to: usize) -> u64
     ensures { result ≡ field s.now (8 * from) (8 * (to - from)) }
 {
     let mut x: u64 = 0;
+    // By index: a byte behind the end is read as 0, and an iterator over the slice would end before it.
     for i in from..to {
         x = x * 256 + byte_at(s, i);
     }

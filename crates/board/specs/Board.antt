@@ -14,7 +14,7 @@ use Rattle.units.specs.Kinds.{nano, tenths, length_of, magnitude, modulus, expan
 use Rattle.curve.specs.declared.Segment.{Segment}
 use Rattle.curve.specs.declared.Side.{Side}
 use Rattle.curve.specs.Sides.{most_segments, flat}
-use Rattle.expansion.specs.Points.{most_points, no_point}
+use Rattle.expansion.specs.declared.Coefficients.TheVariants.{Single}
 use Rattle.sheet.specs.Sheets.{placed, sheet_refusals, sheet_of}
 use Rattle.sheet.specs.Bytes.{sheet_bytes}
 use Rattle.sheet.specs.declared.Sheet.{Sheet}
@@ -41,7 +41,7 @@ sheet law E tension compression =
     record {
       law = law;
       modulus = modulus E;
-      expansion = record { single = expansion 1200; count = 0; points = placed most_points no_point [] };
+      expansion = Single (expansion 1200);
       reference = tenths reference;
       tension = tension;
       compression = compression;

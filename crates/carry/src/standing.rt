@@ -36,9 +36,8 @@ impl<'a> Carried<'a> {
 }
 
 impl<'a> Standing<'a> {
-    ghost use Rattle.std.specs.Prelude.{◌≡◌, ◌+◌, ◌*◌, ◌≤◌, length, take, drop, IfOk};
+    ghost use Rattle.std.specs.Prelude.{◌≡◌, IfOk};
     ghost use Rattle.refusals.specs.Table.{first_of};
-    ghost use Rattle.pair.specs.Pairs.{pair_length};
     ghost use Rattle.rod.specs.Steps.{advance_of, step_refusals};
     ghost use Rattle.rod.specs.Accepted.{PairAccepted};
     ghost use Rattle.carry.specs.Walk.{pair_answer};
@@ -77,15 +76,5 @@ impl<'a> Standing<'a> {
         ensures material { IfOk result (λ carried. carried.to.material.now ≡ self.entry.material.now) }
     {
         self.trial(pair::read(bytes)?)
-    }
-
-    // Tries the pair of a list that comes after i others.
-    pub fn trial_at(self, pairs: &[u8], i: usize) -> Result<Carried<'a>, Reason>
-        requires { pair_length * i + pair_length ≤ length pairs.now }
-        ensures told { trial_told result ≡ pair_answer self.entry.material.now.sheet self.entry.reached.rod (take pair_length (drop (pair_length * i) pairs.now)) }
-        ensures material { IfOk result (λ carried. carried.to.material.now ≡ self.entry.material.now) }
-    {
-        let from = pair::PAIR_LENGTH * i;
-        self.trial_bytes(&pairs[from..from + pair::PAIR_LENGTH])
     }
 }

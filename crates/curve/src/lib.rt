@@ -9,6 +9,7 @@ ghost use Rattle.units.specs.Kinds.{magnitude};
 use units::{Length, Magnitude, Modulus};
 
 // A straight part of the curve (SPEC 3.8). The last segment of a side has no end; its length is 0.
+// Not an `Option`: the layout has that 0, and the last segment is told by its place.
 #[derive(Clone, Copy)]
 pub struct Segment {
     pub length: Length,

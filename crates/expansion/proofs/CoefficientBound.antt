@@ -12,7 +12,8 @@ use Rattle.ranges.specs.Ranges.{most_expansion}
 use Rattle.fractions.specs.Rounding.{floor_f}
 use Rattle.expansion.specs.declared.Point.{Point}
 use Rattle.expansion.specs.declared.Coefficients.{Coefficients}
-use Rattle.expansion.specs.Points.{no_place, points_of, point_right, Usable}
+use Rattle.expansion.specs.declared.Coefficients.TheVariants.{Single, AtPoints}
+use Rattle.expansion.specs.Points.{no_place, standing, point_right, Usable}
 use Rattle.expansion.specs.Coefficient.{line, behind, coefficient_in, coefficient_of}
 use Rattle.expansion.proofs.OrderTests.{below_of_not_at_most, reached_of_not}
 use Rattle.expansion.proofs.PointRanges.{coefficient_most}
@@ -67,8 +68,9 @@ taken_right [] (suc n) right = tt
 taken_right (p ∷ l) (suc n) right = (right 0 (omega arith), taken_right l n (λ i h. right (suc i) (omega arith)))
 
 pub coefficient_of_in_range : (c : Coefficients) (t : ℤ) → Usable c → InRange (coefficient_of c t)
-coefficient_of_in_range c t usable =
-    coefficient_in_range c.single.0 (points_of c) t usable.single_most (taken_right c.points c.count usable.points_right)
+coefficient_of_in_range (Single a) t usable = coefficient_in_range a.0 [] t usable.single_most tt
+coefficient_of_in_range (AtPoints p) t usable =
+    coefficient_in_range 0 (standing p) t usable.single_most (taken_right p.places p.count (usable.points p refl).points_right)
 
 pub coefficient_magnitude : (c : Coefficients) (t : ℤ) → Usable c → nat_abs (coefficient_of c t) ≤ most_expansion
 coefficient_magnitude c t usable = let (n, is, most) = coefficient_of_in_range c t usable in rw is most

@@ -1,17 +1,19 @@
 -- The coefficient is what document 02 says of it (SPEC 5.7, 5.8), and nothing else is: between two neighbours the line through them, rounded
 -- down, beyond the ends the end's own. At a point it is that point's own, and it lies between those of two neighbours. Assumes nothing.
-use Prim.Native.Nat.{ℕ, min, max}
+use Prim.Native.Nat.{ℕ, ◌<◌, min, max}
 use mathlib.Core.Path.{◌≡◌, refl, sym, ap, ◌∙◌}
 use mathlib.Core.Bool.{Bool, true, false, cond}
 use mathlib.Core.List.{List, [], ◌∷◌, ◌++◌, append_assoc}
+use native.Mathlib.Omega.{arith}
 use lib.IntN.{ℤ, pos}
-use lib.ListN.{take}
+use lib.ListN.{length}
 use lib.Signed.{le_z, ◌≤ℤ◌, ≤ℤ_refl}
 use Rattle.fractions.specs.Rounding.{floor_f}
 use Rattle.fractions.proofs.Rounded.{floor_is, floor_only}
 use Rattle.expansion.specs.declared.Point.{Point}
 use Rattle.expansion.specs.declared.Coefficients.{Coefficients}
-use Rattle.expansion.specs.Points.{temperatures_rise}
+use Rattle.expansion.specs.declared.Coefficients.TheVariants.{Single, AtPoints}
+use Rattle.expansion.specs.Points.{points_of, single_of, temperatures_rise, Usable}
 use Rattle.expansion.specs.Coefficient.{line, behind, coefficient_in, coefficient_of, Interpolates}
 use Rattle.expansion.proofs.OrderTests.{test_of_at_most, at_most_of_test, reached_of_not}
 use Rattle.expansion.proofs.Line.{ways_between, line_lies}
@@ -85,6 +87,18 @@ interpolates_only single (p ∷ rest) t a i = by_test (le_z t p.temperature.0) r
         (at_most_of_test (reached_of_not t p.temperature.0 e))
 
 -- Without points it is the single number, at every temperature.
-pub without_points : (c : Coefficients) (t : ℤ) → c.count ≡ 0 → coefficient_of c t ≡ pos c.single.0
+pub without_points : (c : Coefficients) (t : ℤ) → points_of c ≡ [] → coefficient_of c t ≡ pos (single_of c)
 unfolding coefficient_in
-without_points c t none = ap (λ (n : ℕ). coefficient_in c.single.0 (take n c.points) t) none
+without_points c t none = ap (λ (l : List Point). coefficient_in (single_of c) l t) none
+
+-- Beside points the single number is not asked,
+pub beside_points : (single other : ℕ) (l : List Point) (t : ℤ) → 0 < length l → coefficient_in single l t ≡ coefficient_in other l t
+unfolding coefficient_in
+beside_points single other [] t some = absurd (omega arith)
+beside_points single other (p ∷ rest) t some = refl
+
+-- and the temperatures of what a coefficient is found by rise.
+pub usable_rises : (c : Coefficients) → Usable c → temperatures_rise (points_of c) ≡ true
+unfolding temperatures_rise
+usable_rises (Single a) usable = refl
+usable_rises (AtPoints p) usable = (usable.points p refl).rising

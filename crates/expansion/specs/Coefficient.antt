@@ -5,7 +5,7 @@ use Rattle.fractions.specs.Fraction.{Frac, whole, ratio, ◌+F◌}
 use Rattle.fractions.specs.Rounding.{Floor, floor_f}
 use Rattle.expansion.specs.declared.Point.{Point}
 use Rattle.expansion.specs.declared.Coefficients.{Coefficients}
-use Rattle.expansion.specs.Points.{points_of}
+use Rattle.expansion.specs.Points.{points_of, single_of}
 
 -- SPEC 5.7: the straight line through two points, at a temperature: the first coefficient, and of the difference to the second the part
 -- that lies before the temperature. It is a fraction, not rounded.
@@ -26,7 +26,7 @@ coefficient_in single (p ∷ rest) t = cond (le_z t p.temperature.0) (pos p.coef
 
 -- SPEC 5.7: the coefficient of a sheet at a temperature.
 abbrev pub coefficient_of : Coefficients → ℤ → ℤ
-coefficient_of c t = coefficient_in c.single.0 (points_of c) t
+coefficient_of c t = coefficient_in (single_of c) (points_of c) t
 
 -- SPEC 5.7: what document 02 says of the coefficient `a` at the temperature t, whatever way it was found: without points the single number;
 -- up to the first point and from the last one on the end's own; between two neighbours the line through them, rounded down.

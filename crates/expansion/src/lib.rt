@@ -1,12 +1,12 @@
 // How much a rod expands with heat (SPEC 5.7): one coefficient, or points with a straight line from each to the next.
 #![tactic(auto)]
 
-ghost use Rattle.std.specs.Prelude.{◌≡◌, true, ◌+◌, ◌*◌, ◌^◌, ◌≤◌, ◌<◌, pos};
+ghost use Rattle.std.specs.Prelude.{◌≡◌, true, ◌+◌, ◌*◌, ◌^◌, ◌≤◌, ◌<◌, pos, length};
 ghost use Rattle.std.specs.Int.Signed.{le_z, lt_z};
 ghost use Rattle.fractions.specs.Rounding.{floor_f};
 ghost use Rattle.ranges.specs.Ranges.{temperature_right, most_expansion};
-ghost use Rattle.expansion.specs.Points.{most_points, points_of, point_right, temperatures_rise, Usable};
-ghost use Rattle.expansion.specs.Coefficient.{line, coefficient_of};
+ghost use Rattle.expansion.specs.Points.{standing, points_of, count_of, places_of, point_right, temperatures_rise, PointsUsable, Usable};
+ghost use Rattle.expansion.specs.Coefficient.{line, coefficient_in, coefficient_of};
 
 use units::{Expansion, Tenths};
 
@@ -23,13 +23,19 @@ pub const MOST_POINTS: usize = 8;
 // The temperature of a place behind the last point (SPEC 3.9): no temperature in range reaches it.
 pub const NEVER_REACHED: i64 = ranges::TEMPERATURE.most + 1;
 
-// What a sheet says of expansion (SPEC 3.9): `count` points, or where there is none the single number.
-// The places are an array, since there is no heap and a sheet is passed by value; those behind `count` hold no point.
+// The points of a sheet (SPEC 3.9): the first `count` of the places. An array with a count, since there is no heap and a sheet is passed by
+// value; the places behind hold no point, and are read for speed.
 #[derive(Clone, Copy)]
-pub struct Coefficients {
-    pub single: Expansion,
+pub struct Points {
     pub count: usize,
-    pub points: [Point; MOST_POINTS],
+    pub places: [Point; MOST_POINTS],
+}
+
+// What a sheet says of expansion (SPEC 3.9): one coefficient for every temperature, or points.
+#[derive(Clone, Copy)]
+pub enum Coefficients {
+    Single(Expansion),
+    AtPoints(Points),
 }
 
 impl Point {
@@ -58,13 +64,13 @@ impl Point {
     }
 }
 
-impl Coefficients {
-    // Whether the temperatures of the points rise strictly.
-    pub fn rise(self) -> bool
-        requires { self.count ≤ most_points }
-        ensures { result ≡ temperatures_rise (points_of self) }
+impl Points {
+    // Whether their temperatures rise strictly.
+    pub fn rise(&self) -> bool
+        requires { self.now.count ≤ length self.now.places }
+        ensures { result ≡ temperatures_rise (standing self.now) }
     {
-        let points = &self.points[..self.count];
+        let points = &self.places[..self.count];
         points.is_sorted_by(|before, after| before.temperature < after.temperature)
     }
 
@@ -72,19 +78,16 @@ impl Coefficients {
     // the first empty place, which no temperature reaches. It counts to a fixed bound, so that the compiler writes its turns out, each with
     // its own place, and needn't copy the array.
     pub fn at(self, temperature: Tenths) -> Expansion
-        requires { Usable self × (temperature_right temperature.0 ≡ true) }
-        ensures result_value { pos result.0 ≡ coefficient_of self temperature.0 }
+        requires { PointsUsable self × (temperature_right temperature.0 ≡ true) }
+        ensures result_value { pos result.0 ≡ coefficient_in 0 (standing self) temperature.0 }
         ensures most { result.0 ≤ most_expansion }
     {
-        let mut before = self.points[0];
+        let mut before = self.places[0];
         if temperature <= before.temperature {
-            if self.count == 0 {
-                return self.single;
-            }
             return before.coefficient;
         }
         for next in 1..MOST_POINTS {
-            let after = self.points[next];
+            let after = self.places[next];
             if temperature < after.temperature {
                 if next < self.count {
                     return before.toward(after, temperature);
@@ -94,5 +97,32 @@ impl Coefficients {
             before = after;
         }
         before.coefficient
+    }
+}
+
+impl Coefficients {
+    // Whether the temperatures of the points rise strictly, as those of none do.
+    #[tactic(auto, unfolding(crate::specs::Points::temperatures_rise))]
+    pub fn rise(&self) -> bool
+        requires { count_of self.now ≤ length (places_of self.now) }
+        ensures { result ≡ temperatures_rise (points_of self.now) }
+    {
+        match self {
+            Coefficients::Single(_) => true,
+            Coefficients::AtPoints(points) => points.rise(),
+        }
+    }
+
+    // The coefficient at a temperature.
+    #[tactic(auto, unfolding(crate::specs::Coefficient::coefficient_in))]
+    pub fn at(self, temperature: Tenths) -> Expansion
+        requires { Usable self × (temperature_right temperature.0 ≡ true) }
+        ensures result_value { pos result.0 ≡ coefficient_of self temperature.0 }
+        ensures most { result.0 ≤ most_expansion }
+    {
+        match self {
+            Coefficients::Single(single) => single,
+            Coefficients::AtPoints(points) => points.at(temperature),
+        }
     }
 }

@@ -1,38 +1,35 @@
--- Grading (SPEC 17.4, 17.5). The loop that compares rows: before each pair the first row outside the tolerance is known of the pairs so
--- far, and so of the whole list where the loop ends. And the verdict, stage by stage.
-use Prim.Native.Nat.{ℕ, suc, ◌+◌, ◌^◌, ◌≤◌, ◌<◌}
+-- Grading (SPEC 17.4, 17.5). The visitor that compares rows: of the rows that it was called with the first outside the tolerance is known.
+-- And the verdict, stage by stage.
+use Prim.Native.Nat.{ℕ, ◌+◌, ◌^◌, ◌<◌}
 use mathlib.Core.Path.{◌≡◌, refl, sym, ap, subst, ◌∙◌}
-use mathlib.Core.Bool.{Bool, true, false, false≢true, not, ◌||◌, cond}
-use mathlib.Core.List.{List, [], ◌∷◌, ◌++◌}
-use native.Mathlib.Nat.{add-zero}
+use mathlib.Core.Bool.{Bool, true, false, false≢true, cond}
+use mathlib.Core.List.{List, [], ◌∷◌}
 use native.Mathlib.Omega.{arith}
 use borrow.Author.Tests.{eqb-true, eqb-false, eq-eqb, ne_eqb}
 use lib.IntN.{ℤ, pos, negsuc, nat_abs}
 use lib.Dec.{eqb}
-use lib.ListN.{length, length-map}
+use lib.ListN.{length}
 use Rattle.std.specs.Prelude.{Result, Ok, Err, IsErr}
 use Rattle.refusals.specs.declared.Refused.{Refused}
 use Rattle.refusals.proofs.ReasonLaws.{reason_numbered}
-use Rattle.refusals.specs.Table.{passes, refused, first_of}
+use Rattle.refusals.specs.Table.{Refusal, Answer, passes, refused, first_of}
 use Rattle.refusals.proofs.FirstLaws.{stops_first, goes_on, refused_anyhow, passes_anyhow}
 use Rattle.bits.specs.Field.{Held}
 use Rattle.bits.specs.Layout.{offset, width_at}
 use Rattle.bits.proofs.LayoutLaws.{whole_of_field}
-use Rattle.pair.specs.Pairs.{pair_length, list_refusals}
+use Rattle.pair.specs.Pairs.{list_refusals}
 use Rattle.row.specs.declared.Row.{Row}
 use Rattle.row.specs.Rows.{row_layout, row_length}
-use Rattle.sheet.specs.declared.Sheet.{Sheet}
 use Rattle.sheet.specs.Sheets.{sheet_of}
 use Rattle.rod.specs.declared.Rod.{Rod}
-use Rattle.rod.specs.declared.step.Advance.{Advance}
 use Rattle.state.specs.States.{state_of}
-use Rattle.carry.specs.Walk.{pair_answer, rows_of, Walk, walk}
-use Rattle.carry.proofs.Histories.{rows_append}
+use Rattle.carry.specs.Walk.{rows_of, Walk, walk}
 use Rattle.judge.specs.Standing.{Ready, ready_of, standing_refusals}
 use Rattle.judge.proofs.JudgeLaws.{standing_accepted}
-use Rattle.tie_rod.specs.Calls.{piece_at, count_in, pairs_in, place_of}
-use Rattle.tie_rod.proofs.WalkLaws.{Along, along_start, counted, along_next, walk_refused, place_refused, walk_last}
+use Rattle.tie_rod.specs.Calls.{piece_at, count_in, pairs_in, place_of, Walked, walked_of}
+use Rattle.tie_rod.specs.Visiting.{Visited}
 use Rattle.grade.specs.declared.Grade.{Grade}
+use Rattle.grade.specs.declared.table.Table.{Table}
 use Rattle.grade.specs.declared.Grade.TheVariants.{Accepted, Differs}
 use Rattle.grade.specs.Grades.{row_told, RowFromOne, CasesApart, Grading, stress_at, agrees, first_outside, Verdict, verdict, grading_refusals, verdict_by, verdict_on, grade_of}
 use Rattle.grade.specs.Comparing.{with_row, compared_of}
@@ -46,17 +43,6 @@ pub their_stress_small : (rows : List ℕ) (j : ℕ) → nat_abs (stress_at rows
 their_stress_small rows j =
     stress_small (stress_at rows j) (whole_of_field (piece_at row_length j rows) (offset row_layout 3) (width_at row_layout 3) (omega arith)).1
 
--- With row j compared too, the first outside stays what it was where there was one, or where row j agrees.
-abbrev outside_after : (first : ℕ) → (agree : Bool) → (j : ℕ) → ℕ
-outside_after first agree j = cond (agree || not (eqb first 0)) first (j + 1)
-
-row_after : (grade : Grade) (agree : Bool) (j : ℕ) → RowFromOne grade
-    → (row_told (with_row grade agree j) ≡ outside_after (row_told grade) agree j) × RowFromOne (with_row grade agree j)
-row_after Accepted true j from_one = (refl, tt)
-row_after Accepted false j from_one = (refl, λ z. omega (arith, z))
-row_after (Differs row) true j from_one = (refl, from_one)
-row_after (Differs row) false j from_one = (rw (ne_eqb row 0 from_one), from_one)
-
 -- No refusal has number 0.
 pub err_apart : (r : Result Grade Refused) → IsErr r → CasesApart r
 err_apart (Ok grade) e = absurd (false≢true e)
@@ -69,78 +55,46 @@ ended_refused tolerance theirs w some = rw (ne_eqb w.number 0 some)
 pub ended_last : (tolerance : ℤ) (theirs : List ℕ) (w : Walk) → w.number ≡ 0 → compared_of tolerance theirs w ≡ verdict 0 0 (first_outside tolerance theirs 0 (rows_of w.advances))
 ended_last tolerance theirs w none = rw (eq-eqb w.number 0 none)
 
-module _ (tolerance : ℤ) (theirs : List ℕ) where
-  abbrev near : (j : ℕ) → Row → Bool
-  near j row = agrees tolerance (stress_at theirs j) row.stress.0
+-- A visitor that compares each row with that of a table.
+module _ {F : Type 0} (graded : F → Grade) (table : F → Table) (does : F → Row → ℕ → F → Type 0)
+    (keeps : (f : F) (row : Row) (j : ℕ) (g : F) → does f row j g → table g ≡ table f)
+    (compares : (f : F) (row : Row) (j : ℕ) (g : F) → does f row j g
+    → graded g ≡ with_row (graded f) (agrees (table f).tolerance (stress_at (table f).rows.now j) row.stress.0) j)
+  where
+    -- A row that is named stays the one that is named,
+    named_stays : (f : F) (j : ℕ) (rows : List Row) (last : F) {named : ℕ} → graded f ≡ Differs named → Visited does f j rows last → graded last ≡ Differs named
+    named_stays f j [] last is visited = ap graded (sym visited) ∙ is
+    named_stays f j (row ∷ rows) last is (next, step, others) =
+        let near = agrees (table f).tolerance (stress_at (table f).rows.now j) row.stress.0 in
+        named_stays next (j + 1) rows last (compares f row j next step ∙ ap (λ (grade : Grade). with_row grade near j) is) others
 
-  -- One row more.
-  pub first_then : (j : ℕ) (ours : List Row) (row : Row)
-      → first_outside tolerance theirs j (ours ++ (row ∷ [])) ≡ outside_after (first_outside tolerance theirs j ours) (near (j + length ours) row) (j + length ours)
-  unfolding first_outside
-  first_then j [] row = by_row (near j row) ∙ ap (λ (k : ℕ). outside_after 0 (near k row) k) (sym (add-zero j))
-    where
-      by_row : (b : Bool) → cond b 0 (j + 1) ≡ cond (b || not (eqb 0 0)) 0 (j + 1)
-      by_row true = refl
-      by_row false = refl
-  first_then j (x ∷ ours) row = by_row (near j x) (first_then (j + 1) ours row)
-    where
-      later : j + 1 + length ours ≡ j + suc (length ours)
-      later = omega arith
+    module _ (t : Table) where
+      abbrev near : (j : ℕ) → Row → Bool
+      near j row = agrees t.tolerance (stress_at t.rows.now j) row.stress.0
 
-      whole : (f : ℕ) → ℕ
-      whole f = outside_after f (near (j + suc (length ours)) row) (j + suc (length ours))
+      abbrev Named : (last : F) → (first : ℕ) → Type 0
+      Named last first = (row_told (graded last) ≡ first) × RowFromOne (graded last)
 
-      stays : (b : Bool) → j + 1 ≡ cond (b || not (eqb (j + 1) 0)) (j + 1) (j + suc (length ours) + 1)
-      stays true = refl
-      stays false = rw (ne_eqb (j + 1) 0 (λ z. omega (arith, z)))
+      -- and the first that is outside is named.
+      pub first_named : (f : F) (j : ℕ) (rows : List Row) (last : F) → table f ≡ t → graded f ≡ Accepted → Visited does f j rows last
+          → Named last (first_outside t.tolerance t.rows.now j rows)
+      unfolding first_outside
+      first_named f j [] last same is visited = let end = ap graded (sym visited) ∙ is in (ap row_told end, subst RowFromOne (sym end) tt)
+      first_named f j (row ∷ rows) last same is (next, step, others) =
+          let here : graded next ≡ with_row Accepted (near j row) j =
+          compares f row j next step ∙ (λ i. with_row (is i) (agrees (same i).tolerance (stress_at (same i).rows.now j) row.stress.0) j) in
+          by_row (near j row) here (λ e. first_named next (j + 1) rows last (keeps f row j next step ∙ same) e others)
+        where
+          by_row : (b : Bool) → graded next ≡ with_row Accepted b j → (graded next ≡ Accepted → Named last (first_outside t.tolerance t.rows.now (j + 1) rows))
+              → Named last (cond b (first_outside t.tolerance t.rows.now (j + 1) rows) (j + 1))
+          by_row true e onward = onward e
+          by_row false e onward = let end = named_stays next (j + 1) rows last e others in (ap row_told end, subst RowFromOne (sym end) (λ z. omega (arith, z)))
 
-      by_row : (b : Bool) → first_outside tolerance theirs (j + 1) (ours ++ (row ∷ []))
-          ≡ outside_after (first_outside tolerance theirs (j + 1) ours) (near (j + 1 + length ours) row) (j + 1 + length ours)
-          → cond b (first_outside tolerance theirs (j + 1) (ours ++ (row ∷ []))) (j + 1) ≡ whole (cond b (first_outside tolerance theirs (j + 1) ours) (j + 1))
-      by_row true onward = onward ∙ ap (λ (k : ℕ). outside_after (first_outside tolerance theirs (j + 1) ours) (near k row) k) later
-      by_row false onward = stays (near (j + suc (length ours)) row)
-
-  pub record Graded (h : Sheet) (pairs : List ℕ) (r now : Rod) (grade : Grade) (i : ℕ) : Type 0 where
-    pub along : Along h pairs r now i
-    pub first_is : row_told grade ≡ first_outside tolerance theirs 0 (rows_of along.advances)
-    pub from_one : RowFromOne grade
-
-  pub graded_start : (h : Sheet) (pairs : List ℕ) (r : Rod) → Graded h pairs r r Accepted 0
-  unfolding along_start first_outside
-  graded_start h pairs r = record { along = along_start h pairs r; first_is = refl; from_one = tt }
-
-  module _ {h : Sheet} {pairs : List ℕ} {r now : Rod} {grade : Grade} {i : ℕ} (g : Graded h pairs r now grade i) where
-    abbrev ours : List Row
-    ours = rows_of g.along.advances
-
-    ours_counted : length ours ≡ i
-    ours_counted = length-map g.along.advances (λ (a : Advance). a.row) ∙ counted g.along
-
-    pub graded_next : {a : Advance} {grade' : Grade} → i < count_in pairs → pair_answer h now (piece_at pair_length i pairs) ≡ passes a
-        → grade' ≡ with_row grade (near i a.row) i → Graded h pairs r a.rod grade' (i + 1)
-    unfolding along_next
-    graded_next {a} more e is =
-        let at : 0 + length ours ≡ i = omega (arith, ours_counted) in
-        let after = row_after grade (near i a.row) i g.from_one in
-        record {
-          along = along_next g.along more e;
-          first_is = ap row_told is ∙ after.0 ∙ ap (λ (f : ℕ). outside_after f (near i a.row) i) g.first_is
-              ∙ ap (λ (k : ℕ). outside_after (first_outside tolerance theirs 0 ours) (near k a.row) k) (sym at)
-              ∙ sym (first_then 0 ours a.row) ∙ ap (first_outside tolerance theirs 0) (sym (rows_append g.along.advances (a ∷ [])));
-          from_one = subst RowFromOne (sym is) after.1;
-        }
-
-    -- The walk of the list has come to an end here: at a refused pair,
-    pub graded_refused : {n : ℕ} → i < count_in pairs → (pair_answer h now (piece_at pair_length i pairs) ≡ refused n) × (n ≡ 0 → ⊥)
-        → verdict n (i + 1) 0 ≡ compared_of tolerance theirs (walk h r (pairs_in pairs))
-    graded_refused {n} more (e, some) =
-        ap (λ (place : ℕ). verdict n place 0) (sym (place_refused g.along some))
-        ∙ sym (ended_refused tolerance theirs (record { advances = g.along.advances; number = n }) some)
-        ∙ ap (compared_of tolerance theirs) (sym (walk_refused g.along more e))
-
-    -- or behind the last.
-    pub graded_last : count_in pairs ≤ i → verdict 0 0 (row_told grade) ≡ compared_of tolerance theirs (walk h r (pairs_in pairs))
-    graded_last all = ap (verdict 0 0) g.first_is ∙ ap (compared_of tolerance theirs) (sym (walk_last g.along all))
+-- What the pairs come to where the walk was to its end.
+pub compared_at_end : (tolerance : ℤ) (theirs : List ℕ) (r : Rod) (w : Walk) {x : Walked} {row : ℕ} → x ≡ walked_of r w → x.number ≡ 0
+    → row ≡ first_outside tolerance theirs 0 (rows_of w.advances) → verdict 0 0 row ≡ compared_of tolerance theirs w
+compared_at_end tolerance theirs r w is none row_is =
+    ap (verdict 0 0) row_is ∙ sym (ended_last tolerance theirs w (sym (ap (λ (x : Walked). x.number) is) ∙ none))
 
 -- ---- The verdict, stage by stage
 
@@ -204,3 +158,51 @@ compared_last g w {row} e = by_number (eqb w.number 0) refl
     by_number false is =
         let more = eqb-false w.number 0 is in
         absurd (more (sym (ap (λ (v : Verdict). v.number) (e ∙ ended_refused g.tolerance g.rows w more))))
+
+-- ---- The same with number, place and first row apart
+
+-- An answer told by its number, where 0 says that the value passes.
+abbrev pub numbered : {A : Type 0} → (number : ℕ) → A → Answer A
+numbered number value = cond (eqb number 0) (passes value) (refused number)
+
+-- What the pairs of a list come to beside their rows: number and place of a refused pair, and the first row outside the tolerance.
+pub record Compared : Type 0 where
+  pub number : ℕ
+  pub place : ℕ
+  pub first : ℕ
+
+-- Those of a walk; the first row is there beside a refused pair too.
+abbrev pub compared_apart : (tolerance : ℤ) → (theirs : List ℕ) → Walk → Compared
+compared_apart tolerance theirs w =
+    record { number = w.number; place = place_of w; first = first_outside tolerance theirs 0 (rows_of w.advances) }
+
+-- The verdict on them before 16 and 17 are looked at,
+abbrev pub before_own : Compared → Verdict
+before_own c = cond (eqb c.number 0) (verdict 0 0 c.first) (verdict c.number c.place 0)
+
+-- and with `own`, which is 16, 17 or 0.
+abbrev pub settled : Compared → (own : ℕ) → Verdict
+settled c own = cond (eqb c.number 0) (verdict_by (numbered own (verdict 0 0 c.first))) (verdict c.number c.place 0)
+
+-- What a number tells of a table doesn't depend on the value.
+told_anyhow : {A B : Type 0} (n : ℕ) (table : List Refusal) (v : A) (w : B) → numbered n v ≡ first_of table v → numbered n w ≡ first_of table w
+told_anyhow n table v w e = by_number (eqb n 0) e
+  where
+    by_number : (b : Bool) → cond b (passes v) (refused n) ≡ first_of table v → cond b (passes w) (refused n) ≡ first_of table w
+    by_number true e = sym (passes_anyhow table v w (sym e))
+    by_number false e = sym (refused_anyhow table v w n (sym e))
+
+-- Whatever tells of a walk what the code tells of it, settled with the number that tells 16 and 17, is the verdict:
+pub settled_told : (g : Grading) (w : Walk) (c : Compared) (own : ℕ) (d : ℤ) → numbered own d ≡ first_of (grading_refusals g) d
+    → before_own c ≡ compared_of g.tolerance g.rows w → settled c own ≡ verdict_on g w
+settled_told g w c own d e told = by_number (eqb c.number 0) refl told
+  where
+    by_number : (b : Bool) → eqb c.number 0 ≡ b → cond b (verdict 0 0 c.first) (verdict c.number c.place 0) ≡ compared_of g.tolerance g.rows w
+        → cond b (verdict_by (numbered own (verdict 0 0 c.first))) (verdict c.number c.place 0) ≡ verdict_on g w
+    by_number true is told = ap verdict_by (told_anyhow own (grading_refusals g) d (verdict 0 0 c.first) e) ∙ compared_last g w told
+    by_number false is told = compared_refused g w (eqb-false c.number 0 is) told
+
+-- so is what was compared, settled with it.
+pub settled_is : (g : Grading) (w : Walk) (own : ℕ) (d : ℤ) → numbered own d ≡ first_of (grading_refusals g) d
+    → settled (compared_apart g.tolerance g.rows w) own ≡ verdict_on g w
+settled_is g w own d e = settled_told g w (compared_apart g.tolerance g.rows w) own d e refl

@@ -5,8 +5,8 @@
 ghost use Rattle.std.specs.Prelude.{◌≡◌};
 ghost use Rattle.grade.specs.Grades.{row_told};
 
-mod compare; // compare.rt: their rows beside ours, pair by pair
 pub mod entry; // entry.rt: the entry
+mod table; // table.rt: their rows beside ours
 
 // What a grading that isn't refused answers: all rows are within the tolerance, or the first, counted from 1, that isn't. No Option, in which
 // None would have to be read as the good verdict.
@@ -17,7 +17,7 @@ pub enum Grade {
 }
 
 impl Grade {
-    // The first row that isn't within the tolerance, 0 where there is none (SPEC 17.6).
+    // The first row that isn't within the tolerance, 0 where there is none, as C is told it (SPEC 17.6).
     pub fn row(self) -> usize
         ensures { result ≡ row_told self }
     {

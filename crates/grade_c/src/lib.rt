@@ -1,4 +1,4 @@
-// A grading as C calls it (SPEC 9.10, 17.6): thin above the entry of its name. It has an archive of its own, since in one archive with the
+// A grading as C calls it (SPEC 9.10, 17.6): thin above the entry of its name, its answer a number, as include/tie_rod.h says. It has an archive of its own, since in one archive with the
 // runs it would make them slower (DECISIONS.md, Speed).
 #![tactic(auto)]
 
@@ -18,6 +18,7 @@ pub extern "C" fn tie_rod_grade(
 ) -> u64
     ensures { grade_seen result row.new ≡ grade_seen_of (grade_of sheet.now state.now (grading pairs.now rows.now tolerance)) }
 {
+    // Each arm also sets the lent row, so that one function for the number alone would save nothing.
     match grade::entry::grade(sheet, state, pairs, rows, tolerance) {
         Ok(grade) => {
             *row = grade.row() as u64;

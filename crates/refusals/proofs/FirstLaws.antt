@@ -5,9 +5,9 @@ use mathlib.Core.Bool.{Bool, true, false, not, ◌&&◌, ◌||◌, false≢true,
 use mathlib.Core.List.{List, [], ◌∷◌, ◌++◌, append-nil}
 use mathlib.Core.Logic.{inl, inr}
 use native.Mathlib.Omega.{arith}
-use borrow.Author.Tests.{eq-eqb, ne_eqb, ltb-true}
+use borrow.Author.Tests.{eq-eqb, ltb-true}
 use lib.Dec.{eqb, ltb}
-use Rattle.refusals.specs.Table.{Refusal, refusal, numbers_of, withdrawn, Answer, passes, refused, numbered, first_of, NoneApplies, Given, Decided, Follows}
+use Rattle.refusals.specs.Table.{Refusal, refusal, numbers_of, withdrawn, Answer, passes, refused, first_of, NoneApplies, Given, Decided, Follows}
 
 pub refused_is_not_passes : {A : Type 0} (n : ℕ) (x : A) → refused n ≡ passes x → ⊥
 refused_is_not_passes n x e = let z : ◌≡◌ {A = ℕ} 0 1 = cc in omega arith

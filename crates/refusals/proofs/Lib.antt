@@ -1,2 +1,3 @@
 pub mod FirstLaws
+pub mod Numbered
 pub mod ReasonLaws

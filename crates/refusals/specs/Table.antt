@@ -1,6 +1,6 @@
 -- Tables of refusals, and which of their lines is answered (SPEC 8.1), cited wherever something can be refused; definitions only,
 -- nothing is assumed.
-use Rattle.std.specs.Prelude.{ℕ, ◌+◌, ◌*◌, ◌≡◌, Bool, true, false, cond, List, [], ◌∷◌, ◌++◌, map, ◌⊎◌, ◌↔◌, eqb}
+use Rattle.std.specs.Prelude.{ℕ, ◌+◌, ◌*◌, ◌≡◌, Bool, true, false, cond, List, [], ◌∷◌, ◌++◌, map, ◌⊎◌, ◌↔◌}
 
 -- SPEC 8.1: a line of a table, which is a number and whether its condition holds.
 pub record Refusal : Type 0 where
@@ -23,10 +23,6 @@ withdrawn = 11
 pub data Answer (A : Type 0) : Type 0 where
   passes : A → Answer A
   refused : ℕ → Answer A
-
--- SPEC 8.8: an answer told by its number, where 0 says that the value passes.
-abbrev pub numbered : {A : Type 0} → (number : ℕ) → A → Answer A
-numbered number value = cond (eqb number 0) (passes value) (refused number)
 
 -- SPEC 9.10: a number and a place as one number.
 abbrev pub in_one_number : (number place : ℕ) → ℕ

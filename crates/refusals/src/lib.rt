@@ -34,6 +34,15 @@ impl From<Reason> for u64 {
     }
 }
 
+// Each number fits a byte.
+impl From<Reason> for u8 {
+    ghost from_gives = { λ reason number. number ≡ number_of reason };
+
+    fn from(reason: Reason) -> u8 {
+        reason as u8
+    }
+}
+
 // A refusal with its place: which pair or rod it is of, from 1, or 0, as C is told, where it is of none (SPEC 8.6, 15.4).
 #[derive(Clone, Copy, PartialEq, Eq)]
 pub struct Refused {

@@ -46,8 +46,15 @@ enum Motion {
     Compression(Flowed),
 }
 
+// A trial stress (SPEC 5.3), which lies within the bound of all trials.
+#[derive(Clone, Copy)]
+pub struct TrialStress {
+    pub stress: Grain,
+    ghost bounded: { nat_abs stress.0 ≤ most_trial },
+}
+
 // The yield limits at the abscissas of a rod, rounded down (SPEC 7.12). They are found once and kept up from pair to pair; one that the law
-// hasn't is 0.
+// hasn't is 0: the law says which there are, and with an Option both would have to be asked.
 #[derive(Clone, Copy)]
 pub struct Limits {
     pub first: Magnitude,
@@ -72,60 +79,60 @@ fn side_flow(abscissa: Magnitude, limit: Magnitude, trial: Magnitude) -> Option<
     Some(abscissa.plus(trial.minus(limit)))
 }
 
-// A flow toward the trial, by its distance from the centre.
-fn toward(distance: Grain, flowed: Flowed) -> Motion
-    ensures { result ≡ flow_toward (is_neg distance.0) flowed }
+// A flow toward compression where `negative` says so, else toward tension (SPEC 7.7).
+fn toward(negative: bool, flowed: Flowed) -> Motion
+    ensures { result ≡ flow_toward negative flowed }
 {
-    if distance.negative() {
+    if negative {
         return Motion::Compression(flowed);
     }
     Motion::Tension(flowed)
 }
 
 // What a side leaves that has moved to an abscissa: the stress lies at the limit there, negated in compression.
+#[tactic(auto, unfolding(curve::specs::Sides::reading_of))]
 fn flow(curve: TractionCurve<'_>, moved: Magnitude, negative: bool) -> Motion
     requires { moved.0 ≤ most_abscissa + most_trial }
     ensures { result ≡ flow_toward negative (flow_at curve.entry.side.now curve.entry.modulus moved negative) }
 {
     let reading = curve.at(moved);
-    let limit = Grain::of(false, reading.limit);
+    let stress = Grain::of(negative, reading.limit);
     let variable = Grain::of(false, moved);
-    let tangent = reading.tangent;
-    if negative {
-        let stress = Grain(0).minus(limit);
-        return Motion::Compression(Flowed {
+    toward(
+        negative,
+        Flowed {
             stress,
             variable,
-            tangent,
-        });
-    }
-    Motion::Tension(Flowed {
-        stress: limit,
-        variable,
-        tangent,
-    })
+            tangent: reading.tangent,
+        },
+    )
 }
 
 // The isotropic law on one side of the sheet, with the sign of the trial put back.
-fn isotropic(curve: TractionCurve<'_>, abscissa: Grain, limit: Magnitude, trial: Grain) -> Motion
-    requires ranges { AbscissaRight abscissa.0 × (nat_abs trial.0 ≤ most_trial) }
+fn isotropic(
+    curve: TractionCurve<'_>,
+    abscissa: Grain,
+    limit: Magnitude,
+    trial: TrialStress,
+) -> Motion
+    requires abscissa { AbscissaRight abscissa.0 }
     requires limit { limit.0 ≡ limit_at curve.modulus.0 (curve_of curve.side.now) (nat_abs abscissa.0) }
-    ensures { moved_meaning curve.entry.modulus.0 abscissa.0 trial.0 result ≡ isotropic_moved curve.entry.modulus.0 (curve_of curve.entry.side.now) abscissa.0 trial.0 }
+    ensures { moved_meaning curve.entry.modulus.0 abscissa.0 trial.stress.0 result ≡ isotropic_moved curve.entry.modulus.0 (curve_of curve.entry.side.now) abscissa.0 trial.stress.0 }
 {
-    let Some(moved) = side_flow(abscissa.magnitude(), limit, trial.magnitude()) else {
+    let Some(moved) = side_flow(abscissa.magnitude(), limit, trial.stress.magnitude()) else {
         return Motion::Still;
     };
-    flow(curve, moved, trial.negative())
+    flow(curve, moved, trial.stress.negative())
 }
 
 // The kinematic law: the centre moves toward the trial, and the stress is the radius further than the new centre.
-fn kinematic(material: &Material, centre: Grain, trial: Grain) -> Motion
-    requires ranges { (nat_abs centre.0 ≤ most_stress) × (nat_abs trial.0 ≤ most_trial) }
-    ensures { moved_meaning material.now.sheet.modulus.0 centre.0 trial.0 result ≡ kinematic_moved material.now.sheet.modulus.0 (tangent_of material.now.sheet.tension 0) material.now.sheet.tension.yield_stress.0 centre.0 trial.0 }
+fn kinematic(material: &Material, centre: Grain, trial: TrialStress) -> Motion
+    requires { nat_abs centre.0 ≤ most_stress }
+    ensures { moved_meaning material.now.sheet.modulus.0 centre.0 trial.stress.0 result ≡ kinematic_moved material.now.sheet.modulus.0 (tangent_of material.now.sheet.tension 0) material.now.sheet.tension.yield_stress.0 centre.0 trial.stress.0 }
 {
     let side = &material.sheet.tension;
     let radius = side.yield_stress;
-    let distance = trial.minus(centre);
+    let distance = trial.stress.minus(centre);
     let size = distance.magnitude();
     if !passes(size, radius) {
         return Motion::Still;
@@ -135,17 +142,15 @@ fn kinematic(material: &Material, centre: Grain, trial: Grain) -> Motion
     let shift = size.minus(radius).share(tangent, material.sheet.modulus);
     let moved = centre.plus(Grain::of(negative, shift));
     let stress = moved.plus(Grain::of(negative, radius));
-    toward(
-        distance,
-        Flowed {
-            stress,
-            variable: moved,
-            tangent,
-        },
-    )
+    let flowed = Flowed {
+        stress,
+        variable: moved,
+        tangent,
+    };
+    toward(negative, flowed)
 }
 
-// The law's answer, from what it moved: what didn't move is as it was.
+// The law's answer, from what it moved: what didn't move is as it was. No method of `Variables`: it takes what its definition takes, and no limits.
 fn settle(sheet: &Sheet, first: Grain, second: Grain, trial: Grain, motion: Motion) -> Response
     ensures { result ≡ settled_by sheet.now first second trial motion }
 {

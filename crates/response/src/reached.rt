@@ -9,6 +9,7 @@ use sheet::material::Material;
 use units::{Grain, Magnitude, Quantity};
 
 // The yield limit of a side at an abscissa.
+#[tactic(auto, unfolding(curve::specs::Sides::reading_of))]
 fn limit_on(curve: TractionCurve<'_>, abscissa: Grain) -> Magnitude
     ensures { result ≡ limit_on curve.entry.modulus.0 curve.entry.side.now abscissa.0 }
 {
@@ -45,23 +46,15 @@ impl Limits {
         }
         let reached = stress.magnitude();
         match law {
-            Law::IsotropicLine | Law::IsotropicCurve => Limits {
+            Law::Kinematic => self,
+            Law::Asymmetric if stress.negative() => Limits {
+                second: reached,
+                ..self
+            },
+            Law::IsotropicLine | Law::IsotropicCurve | Law::Asymmetric => Limits {
                 first: reached,
                 ..self
             },
-            Law::Kinematic => self,
-            Law::Asymmetric => {
-                if stress.negative() {
-                    return Limits {
-                        second: reached,
-                        ..self
-                    };
-                }
-                Limits {
-                    first: reached,
-                    ..self
-                }
-            }
         }
     }
 }

@@ -1,9 +1,9 @@
 // The two variables of a rod of some material, with the yield limits at them (SPEC 7.12): what a law starts from.
-ghost use Rattle.std.specs.Prelude.{◌≡◌, ◌≤◌, nat_abs};
-ghost use Rattle.response.specs.Response.{VariablesRight, most_trial, outcome_of, response_meaning, settled_by};
+ghost use Rattle.std.specs.Prelude.{◌≡◌};
+ghost use Rattle.response.specs.Response.{VariablesRight, outcome_of, response_meaning, settled_by};
 ghost use Rattle.response.specs.Limits.{limits_of};
 
-use crate::{Limits, Motion, Response};
+use crate::{Limits, Motion, Response, TrialStress};
 use law::Law;
 use sheet::material::Material;
 use units::{Grain, Quantity};
@@ -18,12 +18,10 @@ pub struct Variables<'a> {
 }
 
 impl<'a> Variables<'a> {
-    // What the sheet's law moves. That the trial lies within the bound of all trials is asked of each step of the law and is no fact of a type,
-    // since it is a plain stress that `Step` has just made.
-    fn moved(self, trial: Grain) -> Motion
-        requires variables { VariablesRight self.material.now.sheet.law self.first.0 self.second.0 }
-        requires trial { nat_abs trial.0 ≤ most_trial }
-        ensures { response_meaning (settled_by self.entry.material.now.sheet self.entry.first self.entry.second trial result) ≡ outcome_of self.entry.material.now.sheet self.entry.first.0 self.entry.second.0 trial.0 }
+    // What the sheet's law moves. That the variables are in their ranges is asked here and in `respond` alone.
+    fn moved(self, trial: TrialStress) -> Motion
+        requires { VariablesRight self.material.now.sheet.law self.first.0 self.second.0 }
+        ensures { response_meaning (settled_by self.entry.material.now.sheet self.entry.first self.entry.second trial.stress result) ≡ outcome_of self.entry.material.now.sheet self.entry.first.0 self.entry.second.0 trial.stress.0 }
     {
         let material = self.material;
         let limits = self.limits;
@@ -32,9 +30,9 @@ impl<'a> Variables<'a> {
                 crate::isotropic(material.tension(), self.first, limits.first, trial)
             }
             Law::Kinematic => crate::kinematic(material, self.first, trial),
-            // The side that the trial lies on.
+            // The side that the trial lies on. With a guard here, and one arm for tension, a proof doesn't know which law that arm has.
             Law::Asymmetric => {
-                if trial.negative() {
+                if trial.stress.negative() {
                     return crate::isotropic(
                         material.compression(),
                         self.second,
@@ -48,16 +46,15 @@ impl<'a> Variables<'a> {
     }
 
     // The answer of the sheet's law.
-    pub fn respond(self, trial: Grain) -> Response
-        requires variables { VariablesRight self.material.now.sheet.law self.first.0 self.second.0 }
-        requires trial { nat_abs trial.0 ≤ most_trial }
-        ensures { response_meaning result ≡ outcome_of self.entry.material.now.sheet self.entry.first.0 self.entry.second.0 trial.0 }
+    pub fn respond(self, trial: TrialStress) -> Response
+        requires { VariablesRight self.material.now.sheet.law self.first.0 self.second.0 }
+        ensures { response_meaning result ≡ outcome_of self.entry.material.now.sheet self.entry.first.0 self.entry.second.0 trial.stress.0 }
     {
         crate::settle(
             &self.material.sheet,
             self.first,
             self.second,
-            trial,
+            trial.stress,
             self.moved(trial),
         )
     }

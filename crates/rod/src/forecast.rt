@@ -12,6 +12,7 @@ use sheet::material::Material;
 use units::{Modulus, Quantity};
 
 // The tangent of the segment that holds the abscissa.
+#[tactic(auto, unfolding(curve::specs::Sides::reading_of))]
 fn on_curve(material: &Material, rod: Rod) -> Modulus
     ensures { result ≡ modulus (tangent_at material.now.sheet.modulus.0 (curve_of material.now.sheet.tension) (nat_abs rod.first.0)) }
 {

@@ -10,7 +10,8 @@ pub mod step; // step.rt: one pair
 mod unused; // unused.rt: the rod of a sheet before its first pair
 pub mod variables; // variables.rt: what the two variables are under each law
 
-// `yielded` is the last pair's. `first` is an abscissa or the kinematic centre, `second` the compression abscissa, or 0.
+// `yielded` is the last pair's. `first` is an abscissa or the kinematic centre, `second` the compression abscissa, or 0:
+// the law says which, and the layout has both for every law.
 #[derive(Clone, Copy)]
 pub struct Rod {
     pub law: Law,

@@ -4,7 +4,7 @@ ghost use Rattle.refusals.specs.Table.{first_of};
 ghost use Rattle.refusals.specs.Reasons.{answer_of};
 ghost use Rattle.ranges.specs.Ranges.{around, most_count, most_strain, most_stress};
 ghost use Rattle.units.specs.Kinds.{grain};
-ghost use Rattle.response.specs.Response.{most_trial, response_meaning};
+ghost use Rattle.response.specs.Response.{response_meaning};
 ghost use Rattle.response.specs.Limits.{limits_of};
 ghost use Rattle.rod.specs.Steps.{advance_by, advance_of, leaves_range, step_refusals, thermal_strains_of, trial_of};
 ghost use Rattle.rod.specs.Accepted.{Accepted, PairAccepted};
@@ -13,10 +13,10 @@ use crate::{Rod, variables};
 use pair::Pair;
 use refusals::Reason;
 use response::variables::Variables;
-use response::{Limits, Response};
+use response::{Limits, Response, TrialStress};
 use row::Row;
 use sheet::material::Material;
-use units::{Grain, Nano, Quantity, Scaled};
+use units::{Nano, Quantity, Scaled};
 
 // The thermal strains before and after a pair (SPEC 5.1). Each is found once and goes along with the rod.
 #[derive(Clone, Copy)]
@@ -65,15 +65,17 @@ fn leaves_range(rod: Rod, response: Response) -> bool
 
 impl<'a> Step<'a> {
     // The trial stress (SPEC 5.3).
-    fn trial_stress(self) -> Grain
-        ensures value { result ≡ grain (trial_of self.entry.material.now.sheet self.entry.rod self.entry.pair) }
-        ensures most { nat_abs result.0 ≤ most_trial }
+    fn trial_stress(self) -> TrialStress
+        ensures { result.stress ≡ grain (trial_of self.entry.material.now.sheet self.entry.rod self.entry.pair) }
     {
         let thermal = self.thermals.after.minus(self.thermals.before);
         let elastic = self.pair.change.minus(thermal);
-        self.rod
-            .stress
-            .plus(elastic.times(self.material.sheet.modulus))
+        TrialStress {
+            stress: self
+                .rod
+                .stress
+                .plus(elastic.times(self.material.sheet.modulus)),
+        }
     }
 
     // The next state and the row, from the new strain and what the law left.

@@ -7,7 +7,7 @@ use crate::Rod;
 use sheet::material::Material;
 use units::{Grain, Magnitude, Nano};
 
-// A variable of an unused rod.
+// A variable of an unused rod, which the law says to be an abscissa or not.
 fn start(abscissa: bool, yield_stress: Magnitude) -> Grain
     requires { abscissa ≡ true → yield_stress.0 < 2 ^ 63 }
     ensures { result ≡ grain (start_of abscissa yield_stress.0) }

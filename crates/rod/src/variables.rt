@@ -1,8 +1,10 @@
 // The ranges of a rod's two variables under each law (SPEC 3.11).
-ghost use Rattle.std.specs.Prelude.{◌≡◌};
+ghost use Rattle.std.specs.Prelude.{◌≡◌, ℤ};
+ghost use Rattle.bits.specs.Field.{withinℤ};
 ghost use Rattle.ranges.specs.Ranges.{around, most_stress};
 ghost use Rattle.rod.specs.Variables.{abscissa_right, first_right, second_right};
 
+use bits::Bounds;
 use law::Law;
 use units::Grain;
 
@@ -20,14 +22,21 @@ pub fn stress_right(stress: Grain) -> bool
     ranges::STRESS.hold(stress.0)
 }
 
+// The range of the first variable: that of an abscissa, or that of a centre.
+pub fn first_bounds(law: Law) -> Bounds<i64>
+    ensures { (first : ℤ) → withinℤ result.least result.most first ≡ first_right law first }
+{
+    if law.first_is_abscissa() {
+        return ranges::ABSCISSA;
+    }
+    ranges::STRESS
+}
+
 // Whether the first variable lies in its range.
 pub fn first_right(law: Law, first: Grain) -> bool
     ensures { result ≡ first_right law first.0 }
 {
-    if law.first_is_abscissa() {
-        return abscissa_right(first);
-    }
-    stress_right(first)
+    first_bounds(law).hold(first.0)
 }
 
 // Whether the second variable lies in its range, where the law has one.

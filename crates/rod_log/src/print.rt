@@ -6,16 +6,9 @@ ghost use Rattle.std.specs.Io.KnownBytes.{Consumes, IsAtEnd};
 use crate::walk;
 use std::io::{Read, Result};
 
-// Room for the text of any log: one write prints it.
-fn text_buffer() -> [u8; 262144]
-    ensures { 262144 ≡ length result }
-{
-    [0; 262144]
-}
-
-// Prints the text of a log.
+// Prints the text of a log, with one write.
 pub fn print_text(rt: &impl Print, log: &[u8]) -> Result<()> {
-    let mut out = text_buffer();
+    let mut out = [0; walk::TEXT_LENGTH];
     let count = walk::log_text(log, &mut out);
     rt.write_all(&out[..count])
 }

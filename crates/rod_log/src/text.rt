@@ -1,11 +1,14 @@
 // A text that is written into a lent buffer (SPEC 12.5), one piece behind another.
-// Numbers are printed by hand: a `Display` needs a formatter, and here the bytes go to a lent buffer, without heap.
+// Numbers are printed by hand: the bytes go to a lent buffer, whose every byte has an equation, and of a formatter's text there is none.
 ghost use Rattle.std.specs.Prelude.{◌≡◌, ◌+◌, ◌≤◌, ◌++◌, length};
 ghost use Rattle.rod_log.specs.Texts.{Appended, numeral, signed_numeral};
 
 use units::{Grain, Quantity};
 
-// The buffer, and where the next piece goes.
+// The digits of the greatest number of 64 bits.
+const MOST_DIGITS: usize = 20;
+
+// The buffer, and where the next piece goes: with no heap a text grows in what was lent for it.
 #[derive(Drop)]
 pub(crate) struct Text<'a> {
     pub out: &'a mut [u8],
@@ -29,7 +32,7 @@ impl<'a> Text<'a> {
         ensures same_buffer { self.new.out.ghost_name ≡ self.old.out.ghost_name }
         ensures appended { Appended (numeral n) self.old.out.now self.old.at self.new.out.now self.new.at }
     {
-        let mut digits = [0u8; 20];
+        let mut digits = [0; MOST_DIGITS];
         let count = io::decimal(n, &mut digits);
         self.append(&digits[..count]);
     }

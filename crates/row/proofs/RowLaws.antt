@@ -1,6 +1,6 @@
 -- A row that fits its fields: its numbers in whole bytes are its bytes, and it is read back from them.
-use Prim.Native.Nat.{ℕ, ◌+◌, ◌-◌, ◌*◌, ◌/◌, ◌≤◌}
-use mathlib.Core.Path.{◌≡◌, refl, ap, ◌∙◌}
+use Prim.Native.Nat.{ℕ, ◌+◌, ◌-◌, ◌*◌, ◌/◌}
+use mathlib.Core.Path.{◌≡◌, refl, sym, ap, ◌∙◌}
 use mathlib.Core.List.{List, [], ◌∷◌, ◌++◌}
 use native.Mathlib.Omega.{arith}
 use lib.Dec.{eqb}
@@ -11,7 +11,7 @@ use Rattle.bits.specs.Layout.{Part, width_at, field_at, offset, bits_at, filled,
 use Rattle.branch.specs.Branches.{branch_number, branch_of}
 use Rattle.branch.proofs.BranchLaws.{branch_of_number, number_below_three}
 use Rattle.bits.proofs.SignLaws.{bits_below, signs, flag_below, flag_back}
-use Rattle.bits.proofs.PutLaws.{length_bytes_of, put_over}
+use Rattle.bits.proofs.PutLaws.{length_bytes_of, put_over, put_whole}
 use Rattle.bits.proofs.LayoutLaws.{Fit, nothing, read_back, whole_back}
 use Rattle.bits.proofs.WriteLaws.{packed_alone, bytes_append, bytes_wider}
 use Rattle.row.specs.declared.Row.{Row}
@@ -47,18 +47,21 @@ module _ (r : Row) (fits : RowFits r) where
       rw (packed_alone stress, packed_alone plastic) at (bytes_append (stress ∷ []) (plastic ∷ []) stress_length plastic_length refl fit.1.1.1) in
       rw behind (bytes_append (take 3 (parts r)) (stress ∷ plastic ∷ []) front_length (stress_length + plastic_length) refl fit)
 
+  pub length_row : length (row_bytes r) ≡ row_length
+  unfolding row_bytes
+  length_row = length_bytes_of row_length (packed (parts r))
+
   -- Written from the last to the first, the last in eight bytes, they are the row.
-  pub put_row : (buffer : List ℕ) (at : ℕ) → at + row_length ≤ length buffer
-      → put (put (put buffer (at + (row_length - 8)) (bytes_of 8 (bits_of (8 * 8) r.plastic.0))) (at + front_length) (bytes_of stress_length (bits_at row_layout 3 r.stress.0))) at (bytes_of front_length (packed (take 3 (parts r)))) ≡ put buffer at (row_bytes r)
-  put_row buffer at room =
+  pub put_row : (row : List ℕ) → length row ≡ row_length
+      → put (put (put row (row_length - 8) (bytes_of 8 (bits_of (8 * 8) r.plastic.0))) front_length (bytes_of stress_length (bits_at row_layout 3 r.stress.0))) 0 (bytes_of front_length (packed (take 3 (parts r)))) ≡ row_bytes r
+  put_row row room =
       let first = bytes_of front_length (packed (take 3 (parts r))) in
       let stress = bytes_of stress_length (bits_at row_layout 3 r.stress.0) in
       let plastic = bytes_of plastic_length (bits_at row_layout 4 r.plastic.0) in
       let sign = bytes_of 1 (signs 8 r.plastic.0) in
       let long : length stress ≡ stress_length - 1 + length sign = length_bytes_of stress_length (bits_at row_layout 3 r.stress.0) ∙ rw (length_bytes_of 1 (signs 8 r.plastic.0)) in
-      let place : at + (row_length - 8) ≡ at + front_length + (stress_length - 1) = omega arith in
-      rw (bytes_wider 1 plastic_length r.plastic.0 (omega arith) fits.plastic, place, put_over buffer (at + front_length) (stress_length - 1) stress sign plastic long (omega arith))
-      (put_over buffer at front_length first [] (stress ++ plastic) (length_bytes_of front_length (packed (take 3 (parts r)))) (omega arith) ∙ ap (put buffer at) bytes_are)
+      rw (bytes_wider 1 plastic_length r.plastic.0 (omega arith) fits.plastic, put_over row front_length (stress_length - 1) stress sign plastic long (omega arith))
+      (put_over row 0 front_length first [] (stress ++ plastic) (length_bytes_of front_length (packed (take 3 (parts r)))) (omega arith) ∙ ap (put row 0) bytes_are ∙ put_whole row (row_bytes r) (room ∙ sym (length_row)))
 
   -- The three bits in its bytes are the number of its branch, so that none is above 2.
   pub branch_bits : field_at row_layout (row_bytes r) 1 ≡ branch_number r.branch

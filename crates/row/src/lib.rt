@@ -2,7 +2,7 @@
 #![tactic(auto)]
 
 ghost use Rattle.std.specs.Prelude.{◌≡◌, ◌+◌, ◌*◌, ◌^◌, ◌≤◌, ◌<◌, length, take, drop};
-ghost use Rattle.bits.specs.Layout.{filled, packed, put};
+ghost use Rattle.bits.specs.Layout.{filled, packed};
 ghost use Rattle.row.specs.Rows.{RowFits, row_bytes, row_layout, row_length, row_of, row_values};
 
 use bits::Field;
@@ -35,12 +35,16 @@ const PLASTIC: Field = Field {
     width: 56,
 };
 
-// In bytes, as they are written: the three fields in front, the stress, and where the last eight bytes begin.
-const FRONT_LENGTH: usize = STRESS.at / 8;
+// As they are written: the three fields in front as one, and the last eight bytes.
+const FRONT: Field = Field {
+    at: YIELDED.at,
+    width: STRESS.at - YIELDED.at,
+};
 
-const STRESS_LENGTH: usize = STRESS.width / 8;
-
-const LAST_WORD_AT: usize = ROW_LENGTH - 8;
+const LAST_WORD: Field = Field {
+    at: 8 * ROW_LENGTH - 64,
+    width: 64,
+};
 
 // `branch` says which way plastic strain went (SPEC 7.7), `plastic` is E times plastic strain (SPEC 5.4).
 #[derive(Clone, Copy)]
@@ -57,9 +61,8 @@ impl Row {
     pub fn read(s: &[u8]) -> Row
         ensures { result ≡ row_of s.now }
     {
-        let mark: u64 = YIELDED.read(s);
         Row {
-            yielded: mark == 1,
+            yielded: YIELDED.is_set(s),
             branch: Branch::from(BRANCH.read::<u64>(s)),
             tangent: Modulus(TANGENT.read(s)),
             stress: Grain(STRESS.read(s)),
@@ -85,14 +88,15 @@ impl Row {
         (marks << TANGENT.width) + self.tangent.0
     }
 
-    // Writes the row at a place of a lent buffer.
-    pub fn write(self, buffer: &mut [u8], at: usize)
-        requires { (at + row_length ≤ length buffer.old) × RowFits self }
-        ensures { buffer.new ≡ put buffer.old at (row_bytes self) }
+    // Writes the row where it is to stand.
+    #[tactic(auto, using(crate::proofs::RowLaws::put_row, bits::proofs::SignLaws::passed))]
+    pub fn write(self, row: &mut [u8])
+        requires { (length row.old ≡ row_length) × RowFits self }
+        ensures { row.new ≡ row_bytes self }
     {
         // Eight bytes where seven would do: the compiler then joins some of their stores. The stress is written over the first.
-        bits::write(buffer, at + LAST_WORD_AT, 8, self.plastic.0);
-        bits::write(buffer, at + FRONT_LENGTH, STRESS_LENGTH, self.stress.0);
-        bits::write(buffer, at, FRONT_LENGTH, self.front());
+        LAST_WORD.write(row, self.plastic.0);
+        STRESS.write(row, self.stress.0);
+        FRONT.write(row, self.front());
     }
 }

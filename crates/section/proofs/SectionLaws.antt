@@ -8,7 +8,7 @@ use native.Mathlib.Omega.{arith}
 use lib.Dec.{eqb}
 use lib.IntN.{ℤ, pos, nat_abs, ◌+ℤ◌, +ℤ_assoc, +ℤ_idl, +ℤ_idr}
 use lib.ListN.{length, length-append}
-use Rattle.std.specs.Prelude.{Ok, Err}
+use Rattle.std.specs.Prelude.{Result, Ok, Err, IfOk}
 use Rattle.refusals.specs.declared.Reason.{Reason}
 use Rattle.refusals.specs.Reasons.{number_of}
 use Rattle.refusals.proofs.ReasonLaws.{reason_numbered}
@@ -22,7 +22,7 @@ use Rattle.section.specs.declared.Member.{Member}
 use Rattle.section.specs.declared.Change.{Change}
 use Rattle.section.specs.declared.Movement.{Movement}
 use Rattle.section.specs.Sections.{member_right, all_right, call_right, section_refusals, member_answer, force_of, moment_of, most_force, most_moment, Move, move_of, Moves, all, stopped, moves_on, moves_from, sum, section_left, turned_away, settled, section_by, section_leaves}
-use Rattle.section.specs.Tallies.{Tally, bare_tally, added_to, counted, sections_own, tally_of, tally_all, next_by, next_of, next_all, settled_after, reply_of, Room, GoesOn, open_refusals, start_by, Opened}
+use Rattle.section.specs.Tallies.{Tally, bare_tally, added_to, counted, sections_own, tally_of, tally_all, next_by, next_of, next_all, settled_after, reply_of, Room, GoesOn, open_refusals, start_by, start_of, Opened}
 use Rattle.section.proofs.MemberLaws.{force_most, force_magnitude, moment_most, moment_magnitude, next_stress_most}
 use Rattle.section.proofs.MovesLaws.{same_all, Pass, moves_of, pass_move, all_pass, one_stopped}
 use Rattle.section.proofs.Numbers.{lines_numbered, member_numbered}
@@ -246,11 +246,26 @@ module _ (sheet : List ℕ) (c : Change) (ms after : List Member) (x : Movement)
       let right = by_right (all_right ms) refl (tallies x ms (pos 0) (pos 0) 0) in
       right ∙ (λ i. section_by (cond (not (all_right ms)) (refused 14) (passes (opened.movement.0 i))) (opened.movement.1 i) ms)
 
-  -- What the code comes to is what a section leaves.
-  pub section_is : section_left (reply_of t) after ≡ section_leaves sheet c ms
+  -- What the code comes to there is what a section leaves.
+  pub section_goes_on : section_left (reply_of t) after ≡ section_leaves sheet c ms
   unfolding section_leaves section_refusals open_refusals
-  section_is =
+  section_goes_on =
       let lines = lines_are sheet (not (call_right (length ms) c)) in
       by_sheet (first_of (sheet_refusals sheet) (sheet_of sheet)) (call_right (length ms) c)
       (ap (λ (t : Tally). t.number) opened.start ∙ ap (λ (q : Answer Sheet). (start_by q).number) lines) lines
       ∙ ap (λ (q : Answer Sheet). section_by q c ms) (sym (lines_are sheet (not (call_right (length ms) c && all_right ms))))
+
+-- What the code comes to is what a section leaves, whatever it begins with: x is the movement of an opening that has one.
+pub section_is : (sheet : List ℕ) (c : Change) (ms after : List Member) (o : Result Movement Reason) (x : Movement) (t : Tally) → Opened sheet (length ms) c o
+    → IfOk o (λ y. y ≡ x) → t ≡ tally_all x (start_of o) ms → after ≡ settled_after x (start_of o) ms → section_left (reply_of t) after ≡ section_leaves sheet c ms
+unfolding settled_after
+section_is sheet c ms after (Ok y) x t opened is tally moved =
+    section_goes_on sheet c ms after y t opened
+    (tally ∙ ap (λ (z : Movement). tally_all z (bare_tally 0 0) ms) (sym is))
+    (moved ∙ ap (λ (z : Movement). settled_after z (bare_tally 0 0) ms) (sym is))
+section_is sheet c ms after (Err r) x t opened is tally moved =
+    let some = (reason_numbered r).0 in
+    let none = stands x (number_of r) ms some in
+    let kept : after ≡ ms = moved ∙ ap (λ (y : Tally). cond (eqb y.number 0) (next_all x ms) ms) none ∙ rw (ne_eqb (number_of r) 0 some) in
+    let reply = ap reply_of (tally ∙ none) in
+    (λ i. section_left (reply i) (kept i)) ∙ section_stops sheet c ms r opened

@@ -34,7 +34,8 @@ fn pair_at(change: Change, member: Member) -> Pair
     }
 }
 
-// Tries a rod as a single pair does (SPEC 15.4): 5 and 6 of its state, 8 of the pair, 9 and 10 of the step.
+// Tries a rod as a single pair does (SPEC 15.4): 5 and 6 of its state, 8 of the pair, 9 and 10 of the step. Movement and member come side by
+// side, here and below: one is lent by the call, the other is one of its list.
 fn tried<'a>(movement: &'a Movement, member: Member) -> Result<Carried<'a>, Reason>
     requires { member_right member ≡ true }
     ensures { trial_told result ≡ member_answer movement.now.material.sheet movement.now.change member }
@@ -71,7 +72,7 @@ fn added(sums: Sums, member: Member, stress: Grain) -> Sums
     }
 }
 
-// A number of the section's own has no place, and stands.
+// A number of the section's own has no place, which is 0 as C is told, and stands.
 #[tactic(auto, using(refusals::proofs::ReasonLaws::reason_numbered), unfolding(crate::specs::Tallies::sections_own))]
 fn sections_own(tally: Result<Sums, Refused>) -> bool
     ensures { result ≡ sections_own (tally_meaning tally) }
@@ -87,10 +88,10 @@ fn sections_own(tally: Result<Sums, Refused>) -> bool
 pub(crate) fn tally(
     tally: Result<Sums, Refused>,
     member: Member,
-    movement: Movement,
+    movement: &Movement,
 ) -> Result<Sums, Refused>
     requires { GoesOn 1 (tally_meaning tally) }
-    ensures { tally_meaning result ≡ tally_of movement (tally_meaning tally) member }
+    ensures { tally_meaning result ≡ tally_of movement.now (tally_meaning tally) member }
 {
     if sections_own(tally) {
         return tally;
@@ -99,7 +100,7 @@ pub(crate) fn tally(
         return Err(Refused::from(Reason::SectionField));
     }
     let sums = tally?;
-    match tried(&movement, member) {
+    match tried(movement, member) {
         Ok(carried) => Ok(added(sums, member, carried.to.reached.rod.stress)),
         Err(reason) => Err(Refused {
             reason,
@@ -121,13 +122,13 @@ fn with_state(member: Member, rod: Rod) -> Member
 
 // A member after a call: its trial is kept and stored. One that is refused stays; `settle` doesn't come here then.
 #[tactic(auto, unfolding(crate::specs::Tallies::next_of))]
-pub(crate) fn next(member: Member, movement: Movement) -> Member
-    ensures { result ≡ next_of movement member }
+pub(crate) fn next(member: Member, movement: &Movement) -> Member
+    ensures { result ≡ next_of movement.now member }
 {
     if !right(member) {
         return member;
     }
-    match tried(&movement, member) {
+    match tried(movement, member) {
         Ok(carried) => with_state(member, carried.keep().reached.rod),
         Err(_) => member,
     }

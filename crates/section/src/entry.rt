@@ -45,7 +45,7 @@ pub fn section(
         temperature: Tenths(temperature),
     };
     let movement = open(sheet, members.len(), change)?;
-    let sums = together::settle(members, movement)?;
+    let sums = together::settle(members, &movement)?;
     Ok(Forces {
         force: sums.force,
         moment: sums.moment,

@@ -8,6 +8,7 @@ mod each; // each.rt: one rod of a section, by value
 mod together; // together.rt: all rods, decided first and then stored
 
 use sheet::material::Material;
+use state::STATE_LENGTH;
 use units::{Curvature, Nano, Tenths};
 
 // A rod of a section: its area in mm², its offset in mm, and its state. Firmware lends these, so they are laid out as C has them.
@@ -16,7 +17,7 @@ use units::{Curvature, Nano, Tenths};
 pub struct Member {
     pub area: u64,
     pub offset: i64,
-    pub state: [u8; 37],
+    pub state: [u8; STATE_LENGTH],
 }
 
 // What a section's plate does: mean strain and curvature change, and the temperature is a new one.
@@ -35,7 +36,7 @@ pub struct Movement {
     pub ghost right: { ChangeRight change },
 }
 
-// What the rods looked at so far add up to, and how many there were.
+// What the rods looked at so far add up to, and how many there were: the next one's place goes by it.
 #[derive(Clone, Copy)]
 pub struct Sums {
     pub force: i64,

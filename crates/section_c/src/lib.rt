@@ -1,4 +1,4 @@
-// A section as C calls it (SPEC 9.10, 15.6): thin above the entry of its name. It has an archive of its own, since in one archive with the
+// A section as C calls it (SPEC 9.10, 15.6): thin above the entry of its name, its answer a number, as include/tie_rod.h says. It has an archive of its own, since in one archive with the
 // runs it would make them slower (DECISIONS.md, Speed).
 #![tactic(auto)]
 
@@ -21,6 +21,7 @@ pub extern "C" fn tie_rod_section(
 ) -> u64
     ensures { section_seen result force.new moment.new members.new ≡ section_seen_of (section_leaves sheet.now (change_of mean curvature temperature) members.old) }
 {
+    // Each arm also sets force and moment, so that one function for the number alone would save nothing.
     match section::entry::section(sheet, members, mean, curvature, temperature) {
         Ok(forces) => {
             *force = forces.force;

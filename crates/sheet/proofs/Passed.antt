@@ -16,13 +16,14 @@ use Rattle.ranges.specs.Ranges.{temperature_right, most_modulus, most_expansion,
 use Rattle.law.specs.declared.Law.{Law}
 use Rattle.law.specs.declared.Law.TheVariants.{Kinematic, Asymmetric}
 use Rattle.curve.specs.declared.Segment.{Segment}
-use Rattle.expansion.specs.Points.{most_points, no_point, no_place, point_right, temperatures_rise, Usable}
+use Rattle.expansion.specs.declared.Point.{Point}
+use Rattle.expansion.specs.Points.{most_points, no_point, no_place, point_right, temperatures_rise, count_of, places_of, PointsUsable, Usable}
 use Rattle.curve.specs.Sides.{most_segments, flat, length_at, tangent_of}
 use Rattle.bits.specs.Field.{within}
 use Rattle.sheet.specs.declared.Sheet.{Sheet}
-use Rattle.sheet.specs.Sheets.{law_in, tension_count, compression_count, point_count, modulus_in, expansion_in, reference_in, tension_yield, compression_yield, header_zero_bits, segment_length_in, segment_tangent_in, all_below, most_tension, compression_of, expansion_right, compression_yield_right, length_right, tangent_right, sheet_counts_right, constants_right, yields_right, header_right, lengths_right, tangents_right, both_sides, segment_in, point_in, listed, placed, points_in, point_fields_right, points_right, sheet_field_refusals, sheet_refusals, side_in, sheet_of}
+use Rattle.sheet.specs.Sheets.{law_in, tension_count, compression_count, point_count, modulus_in, expansion_in, reference_in, tension_yield, compression_yield, header_zero_bits, segment_length_in, segment_tangent_in, all_below, most_tension, compression_of, expansion_right, compression_yield_right, length_right, tangent_right, sheet_counts_right, constants_right, yields_right, header_right, lengths_right, tangents_right, both_sides, segment_in, point_in, listed, placed, points_in, points_by, coefficients_by, point_fields_right, points_right, sheet_field_refusals, sheet_refusals, side_in, sheet_of}
 use Rattle.sheet.specs.Sound.{SideSound, SheetSound}
-use Rattle.sheet.proofs.SheetLaws.{few_segments, within_bounds, length_listed, placed_first}
+use Rattle.sheet.proofs.SheetLaws.{few_segments, within_bounds, length_listed, placed_first, some_by}
 
 all_below_holds : (test : ℕ → Bool) (n i : ℕ) → all_below test n ≡ true → i < n → test i ≡ true
 unfolding all_below
@@ -125,22 +126,35 @@ single_most points a = by_count (eqb points 0)
     by_count true e = (within_bounds 0 most_expansion a e).1
     by_count false e = let none = eqb-true a 0 e in omega arith
 
--- The coefficients of a sheet whose counts, expansion and points are right.
-coefficients_usable : (s : List ℕ) → within 0 most_points (point_count s) ≡ true → expansion_right (point_count s) (expansion_in s) ≡ true
-    → points_right s ≡ true → temperatures_rise (points_in s) ≡ true → Usable (sheet_of s).expansion
-unfolding sheet_of points_right
-coefficients_usable s few single points rise =
+-- The points of a sheet whose count and points are right,
+points_usable : (s : List ℕ) → 0 < point_count s → within 0 most_points (point_count s) ≡ true → points_right s ≡ true → temperatures_rise (points_in s) ≡ true
+    → PointsUsable (points_by (point_count s) (points_in s))
+unfolding points_right
+points_usable s some few points rise =
     let n = point_count s in
     record {
+      some = some;
       count_fits = (within_bounds 0 most_points n few).1;
       places = placed_all most_points no_point (point_in s) 0 n (within_bounds 0 most_points n few).1;
-      single_most = single_most n (expansion_in s) single;
       points_right = λ i h.
           let fields = all_below_holds (point_fields_right s) n i points h in
           ap point_right (rw (zero-add i) at (placed_at most_points no_point no_place (point_in s) 0 n i h)) ∙ (both_hold (point_right (point_in s i)) _ fields).0;
       empty_behind = placed_behind most_points no_point no_place (point_in s) 0 n;
       rising = ap temperatures_rise (placed_first most_points no_point (point_in s) 0 n) ∙ rise;
     }
+
+-- and with them its coefficients, whose single number is in its range.
+coefficients_usable : (n single : ℕ) (points : List Point) → single ≤ most_expansion
+    → (0 < n → PointsUsable (points_by n points)) → Usable (coefficients_by n single points)
+coefficients_usable zero single points most usable = record { single_most = most; points = λ p e. absurd (cc) }
+coefficients_usable (suc n) single points most usable =
+    record { single_most = omega arith; points = λ p e. subst PointsUsable (sym (some_by (suc n) single points p e)) (usable (omega arith)) }
+
+-- Its points have their places.
+pub held_in_places : (n single : ℕ) (at : ℕ → Point) → n ≤ most_points
+    → count_of (coefficients_by n single (listed at 0 n)) ≤ length (places_of (coefficients_by n single (listed at 0 n)))
+held_in_places zero single at few = omega arith
+held_in_places (suc n) single at few = omega (arith, few, placed_all most_points no_point at 0 (suc n) few)
 
 one_of_kinematic : (law : Law) (n : ℕ) → within 1 (most_tension law) n ≡ true → law ≡ Kinematic → n ≡ 1
 one_of_kinematic law n e k =
@@ -168,7 +182,8 @@ values_sound s counts constants yields lengths_t lengths_c points tangents_t tan
     record {
       modulus_least = modulus.0;
       modulus_most = modulus.1;
-      expansion = coefficients_usable s counted.2 constant.1 points rise;
+      expansion = coefficients_usable (point_count s) (expansion_in s) (points_in s) (single_most (point_count s) (expansion_in s) constant.1)
+          (λ some. points_usable s some counted.2 points rise);
       reference_right = constant.2;
       tension = side_sound s (tension_yield s) 0 (tension_count s) some.0 (few_segments s).0 yield.1 lengths_t tangents_t;
       compression = λ a.

@@ -7,22 +7,27 @@ use native.Mathlib.Decide.{dec_lt}
 use native.Mathlib.Omega.{arith}
 use native.Mathlib.Nat.{zero-add}
 use native.Mathlib.Numerals.{add-one}
-use lib.ListN.{length, take, replicate, set, length-append}
+use lib.ListN.{length, take, drop, replicate, length-append}
 use borrow.Author.Tests.{leb-true}
 use lib.Dec.{eqb, leb}
-use lib.Seq.{set_at, take_at, append_snoc}
+use lib.Seq.{take_at}
+use Rattle.std.proofs.lemmas.List.{drop-replicate}
 use Rattle.std.specs.Prelude.{Result, Ok, Err}
 use Rattle.std.specs.Result.{IsErrAnd}
 use Rattle.std.proofs.lemmas.Result.{err_from_is_err_and}
 use Rattle.refusals.specs.declared.Reason.{Reason}
 use Rattle.refusals.specs.declared.Reason.TheVariants.{SheetField}
 use Rattle.refusals.proofs.FirstLaws.{both_hold, three_hold}
-use Rattle.expansion.specs.Points.{most_points}
+use Rattle.expansion.specs.declared.Point.{Point}
+use Rattle.expansion.specs.declared.Points.{Points}
+use Rattle.expansion.specs.declared.Coefficients.TheVariants.{Single, AtPoints}
+use Rattle.units.specs.declared.Expansion.{Expansion}
+use Rattle.expansion.specs.Points.{most_points, no_point, points_of}
 use Rattle.bits.specs.Field.{within}
 use Rattle.bits.proofs.FieldLaws.{field_at_below}
 use Rattle.sheet.specs.SheetLayout.{header_layout, most_points_counted}
-use Rattle.sheet.specs.Sheets.{law_in, tension_count, compression_count, point_count, sheet_counts_right, constants_right, yields_right, header_right, most_tension, compression_of, all_below, listed, placed}
-use Rattle.sheet.specs.ReaderAnswers.{right_or_field}
+use Rattle.sheet.specs.Sheets.{law_in, tension_count, compression_count, point_count, sheet_counts_right, constants_right, yields_right, header_right, most_tension, compression_of, all_below, listed, placed, expansion_in, point_in, points_in, points_by, coefficients_by, coefficients_in}
+use Rattle.sheet.specs.ReaderAnswers.{right_or_field, read_into}
 
 -- The counts of segments are of three bits,
 pub few_segments : (s : List ℕ) → (tension_count s ≤ 7) × (compression_count s ≤ 7)
@@ -69,16 +74,17 @@ unfolding listed
 length_listed at first zero = refl
 length_listed at first (suc n) = length-append (listed at first n) (at (first + n) ∷ []) ∙ rw (length_listed at first n) (omega arith)
 
--- and the next one goes into the first free place.
-pub placed_more : {A : Type 0} (most : ℕ) (empty : A) (at : ℕ → A) (i : ℕ) → i < most
-    → set (placed most empty (listed at 0 i)) i (at i) ≡ placed most empty (listed at 0 (i + 1))
-unfolding placed listed
-placed_more most empty at i h =
-    let l = listed at 0 i in
-    let x = at i in
-    let free : most - length l ≡ suc (most - 1 - i) = rw (length_listed at 0 i) (omega arith) in
-    let left : most - length (l ++ (x ∷ [])) ≡ most - 1 - i = rw (length-append l (x ∷ []), length_listed at 0 i) (omega arith) in
-    rw (add-one i, zero-add i, free, left, set_at l empty (replicate (most - 1 - i) empty) x i (length_listed at 0 i)) (sym (append_snoc l x (replicate (most - 1 - i) empty)))
+-- one more behind the others,
+pub listed_more : {A : Type 0} (at : ℕ → A) (i : ℕ) → listed at 0 (i + 1) ≡ listed at 0 i ++ (at i ∷ [])
+unfolding listed
+listed_more at i = rw (add-one i, zero-add i) refl
+
+-- and they stand in front of the places that were empty.
+pub placed_in : {A : Type 0} (most : ℕ) (empty : A) (at : ℕ → A) (first n : ℕ) {places : List A} → places ≡ replicate most empty
+    → listed at first n ++ drop n places ≡ placed most empty (listed at first n)
+unfolding placed
+placed_in most empty at first n none =
+    rw (none, length_listed at first n) (ap (λ (behind : List _). listed at first n ++ behind) (drop-replicate n most empty))
 
 -- Things from number `first` on are listed as those from 0 on that stand so much further.
 pub listed_from : {A : Type 0} (at : ℕ → A) (first n : ℕ) → listed (λ i. at (first + i)) 0 n ≡ listed at first n
@@ -90,6 +96,32 @@ listed_from at first (suc n) = rw (listed_from at first n, zero-add n)
 pub placed_first : {A : Type 0} (most : ℕ) (empty : A) (at : ℕ → A) (first n : ℕ) → take n (placed most empty (listed at first n)) ≡ listed at first n
 unfolding placed
 placed_first most empty at first n = take_at (listed at first n) (replicate (most - length (listed at first n)) empty) n (length_listed at first n)
+
+-- What a sheet says of expansion goes by its count: where there is a point it is the points,
+pub by_some : (n single : ℕ) (points : List Point) → 0 < n → coefficients_by n single points ≡ AtPoints (points_by n points)
+by_some zero single points some = absurd (omega arith)
+by_some (suc n) single points some = refl
+
+same_points : {p q : Points} → AtPoints p ≡ AtPoints q → p ≡ q
+same_points e = cc
+
+-- and the other way round.
+pub some_by : (n single : ℕ) (points : List Point) (p : Points) → coefficients_by n single points ≡ AtPoints p → p ≡ points_by n points
+some_by zero single points p e = absurd (cc)
+some_by (suc n) single points p e = sym (same_points e)
+
+pub none_by : (n single : ℕ) (points : List Point) (a : Expansion) → coefficients_by n single points ≡ Single a → n ≡ 0
+none_by zero single points a e = refl
+none_by (suc n) single points a e = absurd (cc)
+
+-- What a sheet says of expansion has the points that were listed,
+by_points : (n single : ℕ) (at : ℕ → Point) → points_of (coefficients_by n single (listed at 0 n)) ≡ listed at 0 n
+unfolding listed
+by_points zero single at = refl
+by_points (suc n) single at = placed_first most_points no_point at 0 (suc n)
+
+pub points_held : (s : List ℕ) → points_of (coefficients_in s) ≡ points_in s
+points_held s = by_points (point_count s) (expansion_in s) (point_in s)
 
 -- What a part of the reader answered tells whether it was right, and what was read.
 pub read_tells : {A : Type 0} (right : Bool) (read : A) {x : A} → Ok x ≡ right_or_field right read → (right ≡ true) × (x ≡ read)
@@ -107,3 +139,18 @@ refusal_handed_on right read answer e handed =
     let told = refusal_tells right read e in
     let on = err_from_is_err_and answer handed in
     (told.0, on.1 ∙ ap Err (on.2 ∙ told.1))
+
+-- and what was lent is refused with it.
+pub lent_refused : {A B D : Type 0} (right : Bool) (read : A) {r : Reason} (left : B) (answer : Result D Reason) → Err r ≡ right_or_field right read
+    → IsErrAnd answer (λ y. y ≡ r) → (right ≡ false) × (read_into left answer ≡ Err SheetField)
+lent_refused right read left answer e handed =
+    let on = refusal_handed_on right read answer e handed in
+    (on.0, ap (read_into left) on.1)
+
+-- What a lent part was read into tells of the whole.
+pub part_read : {A B D : Type 0} (whole : A → B) (right : Bool) (read left : A) (answer : Result D Reason) → read_into left answer ≡ right_or_field right read
+    → read_into (whole left) answer ≡ right_or_field right (whole read)
+part_read whole true read left (Ok done) e = ap (λ (x : _). Ok (whole x)) (read_tells true read e).1
+part_read whole true read left (Err r) e = absurd (cc)
+part_read whole false read left (Ok done) e = absurd (cc)
+part_read whole false read left (Err r) e = ap Err (refusal_tells false read e).1

@@ -4,7 +4,7 @@ use Rattle.ranges.specs.Ranges.{grains}
 use Rattle.bits.specs.Layout.{bits_at, filled, packed, bytes_of}
 use Rattle.law.specs.Laws.{number_of}
 use Rattle.expansion.specs.declared.Point.{Point}
-use Rattle.expansion.specs.Points.{points_of}
+use Rattle.expansion.specs.Points.{points_of, count_of, single_of}
 use Rattle.curve.specs.declared.Segment.{Segment}
 use Rattle.curve.specs.declared.Side.{Side}
 use Rattle.sheet.specs.declared.Sheet.{Sheet}
@@ -17,12 +17,12 @@ header_values h =
     ∷ h.tension.count
     ∷ h.compression.count
     ∷ h.modulus.0
-    ∷ h.expansion.single.0
+    ∷ single_of h.expansion
     ∷ bits_at header_layout 5 h.reference.0
     ∷ h.tension.yield_stress.0 / grains
     ∷ h.compression.yield_stress.0 / grains
     ∷ 0
-    ∷ h.expansion.count
+    ∷ count_of h.expansion
     ∷ []
 
 -- SPEC 3.8: what stands in a segment.

@@ -1,6 +1,6 @@
 -- What the parts of the sheet's reader answer (SPEC 8.8), by the definitions of `Sheets`, cited by this crate's contracts; definitions
 -- only, nothing is assumed.
-use Rattle.std.specs.Prelude.{ℕ, ◌-◌, ◌*◌, ◌≡◌, ◌<◌, Bool, ◌&&◌, ◌||◌, cond, List, Result, Ok, Err, eqb, leb, ltb}
+use Rattle.std.specs.Prelude.{ℕ, ◌-◌, ◌*◌, ◌≡◌, ◌<◌, Bool, ◌&&◌, ◌||◌, cond, List, Result, Ok, Err, replicate, eqb, leb, ltb}
 use Rattle.refusals.specs.declared.Reason.{Reason}
 use Rattle.refusals.specs.declared.Reason.TheVariants.{SheetField}
 use Rattle.ranges.specs.Ranges.{grains}
@@ -11,12 +11,14 @@ use Rattle.sheet.specs.declared.Constants.{Constants}
 use Rattle.sheet.specs.declared.Yields.{Yields}
 use Rattle.sheet.specs.declared.Header.{Header}
 use Rattle.expansion.specs.declared.Point.{Point}
+use Rattle.expansion.specs.declared.Points.{Points}
+use Rattle.expansion.specs.declared.Coefficients.{Coefficients}
 use Rattle.expansion.specs.Points.{most_points, no_point}
 use Rattle.sheet.specs.declared.Sheet.{Sheet}
 use Rattle.curve.specs.declared.Segment.{Segment}
 use Rattle.curve.specs.declared.Side.{Side}
-use Rattle.curve.specs.Sides.{tangent_of}
-use Rattle.sheet.specs.Sheets.{law_in, tension_count, compression_count, point_count, sheet_counts_right, modulus_in, expansion_in, reference_in, tension_yield, compression_yield, constants_right, yields_right, header_right, all_below, both_sides, lengths_right, sheet_of, segments_in, placed, point_in, points_in, point_fields_right, points_right}
+use Rattle.curve.specs.Sides.{most_segments, flat, tangent_of}
+use Rattle.sheet.specs.Sheets.{law_in, tension_count, compression_count, point_count, sheet_counts_right, modulus_in, expansion_in, reference_in, tension_yield, compression_yield, constants_right, yields_right, header_right, all_below, both_sides, lengths_right, sheet_of, side_in, point_in, points_in, points_by, coefficients_in, point_fields_right, points_right}
 
 -- SPEC 3.7, 3.9: what stands in the header: law and counts; E, expansion and reference temperature; yields in grains; and all of it.
 abbrev pub counts_of : List ℕ → Counts
@@ -39,6 +41,22 @@ right_or_field right read = cond right (Ok read) (Err SheetField)
 abbrev pub ReadsEach : {A : Type 0} → (answer : ℕ → Result A Reason → Type 0) → (right : ℕ → Bool) → (thing : ℕ → A) → (count : ℕ) → Type 0
 ReadsEach {A} answer right thing count = (i : ℕ) (r : Result A Reason) → i < count → answer i r → r ≡ right_or_field (right i) (thing i)
 
+-- SPEC 8.8: a part that was lent a place reads what it leaves there, unless it refuses.
+abbrev pub read_into : {A B : Type 0} → (left : A) → Result B Reason → Result A Reason
+read_into left (Ok done) = Ok left
+read_into left (Err reason) = Err reason
+
+-- SPEC 3.9: the places of a side before a segment is read, those before a point is,
+abbrev pub no_segments : List Segment
+no_segments = replicate most_segments flat
+
+abbrev pub no_points : List Point
+no_points = replicate most_points no_point
+
+-- and a sheet with such sides.
+abbrev pub Unread : Sheet → Type 0
+Unread h = (h.tension.segments ≡ no_segments) × (h.compression.segments ≡ no_segments)
+
 -- SPEC 8.8: law and counts, right where SPEC 3.7 allows them; E, expansion and reference temperature; yields; and all of the header.
 abbrev pub counts_in : List ℕ → Result Counts Reason
 counts_in s = right_or_field (sheet_counts_right s) (counts_of s)
@@ -52,17 +70,21 @@ yields_in s law = right_or_field (yields_right s law) (yields_of s)
 abbrev pub header_in : List ℕ → Result Header Reason
 header_in s = right_or_field (header_right s) (header_of s)
 
--- SPEC 8.8: the segments of a side, right where their lengths are,
-abbrev pub segments_read : List ℕ → ℕ → ℕ → Result (List Segment) Reason
-segments_read s first count = right_or_field (lengths_right s first count) (segments_in s first count)
+-- SPEC 8.8: a side, right where the lengths of its segments are,
+abbrev pub side_read : List ℕ → (yield first count : ℕ) → Result Side Reason
+side_read s yield first count = right_or_field (lengths_right s first count) (side_in s yield first count)
 
 -- a point, right where its fields are,
 abbrev pub point_read : List ℕ → ℕ → Result Point Reason
 point_read s i = right_or_field (point_fields_right s i) (point_in s i)
 
--- and all points, right where those of each are.
-abbrev pub points_read : List ℕ → Result (List Point) Reason
-points_read s = right_or_field (points_right s) (placed most_points no_point (points_in s))
+-- all points, right where those of each are,
+abbrev pub points_read : List ℕ → Result Points Reason
+points_read s = right_or_field (points_right s) (points_by (point_count s) (points_in s))
+
+-- and what the sheet says of expansion, right where its points are.
+abbrev pub coefficients_read : List ℕ → Result Coefficients Reason
+coefficients_read s = right_or_field (points_right s) (coefficients_in s)
 
 -- SPEC 3.8: the tangent modulus of segment i of a side that was read: below Young's modulus, and not above its predecessor's.
 abbrev pub tangent_falls : Side → (modulus i : ℕ) → Bool

@@ -13,6 +13,9 @@ use Rattle.curve.specs.Sides.{most_segments, flat}
 use Rattle.bits.specs.Field.{within, flag}
 use Rattle.bits.specs.Layout.{field_at, field_from, whole_at, whole_from}
 use Rattle.expansion.specs.declared.Point.{Point}
+use Rattle.expansion.specs.declared.Points.{Points}
+use Rattle.expansion.specs.declared.Coefficients.{Coefficients}
+use Rattle.expansion.specs.declared.Coefficients.TheVariants.{Single, AtPoints}
 use Rattle.expansion.specs.Points.{most_points, no_point, point_right, temperatures_rise}
 use Rattle.sheet.specs.declared.Sheet.{Sheet}
 use Rattle.sheet.specs.SheetLayout.{header_layout, header_length, segment_layout, segment_at, point_layout, point_at, sheet_length}
@@ -132,6 +135,19 @@ segments_in s first count = placed most_segments flat (listed (segment_in s) fir
 abbrev pub points_in : List ℕ → List Point
 points_in s = listed (point_in s) 0 (point_count s)
 
+-- SPEC 3.9: so many points, each in its place.
+abbrev pub points_by : (count : ℕ) → List Point → Points
+points_by count points = record { count = count; places = placed most_points no_point points }
+
+-- SPEC 3.9: what a sheet says of expansion: without a point the single number, else the points,
+abbrev pub coefficients_by : (count single : ℕ) → List Point → Coefficients
+coefficients_by zero single points = Single (expansion single)
+coefficients_by (suc n) single points = AtPoints (points_by (suc n) points)
+
+-- by its count of points.
+abbrev pub coefficients_in : List ℕ → Coefficients
+coefficients_in s = coefficients_by (point_count s) (expansion_in s) (points_in s)
+
 -- SPEC 3.8: the fields of point i.
 abbrev pub point_fields_right : List ℕ → ℕ → Bool
 point_fields_right s i = point_right (point_in s i) && eqb (point_zero_bits s i) 0
@@ -196,7 +212,7 @@ sheet_of s =
     record {
       law = law_in s;
       modulus = modulus (modulus_in s);
-      expansion = record { single = expansion (expansion_in s); count = point_count s; points = placed most_points no_point (points_in s) };
+      expansion = coefficients_in s;
       reference = tenths (reference_in s);
       tension = side_in s (tension_yield s) 0 (tension_count s);
       compression = side_in s (compression_yield s) (tension_count s) (compression_count s);

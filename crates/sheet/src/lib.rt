@@ -4,20 +4,21 @@
 mod layout; // layout.rt: where everything stands in the bytes
 pub mod material; // material.rt: a sheet that passed
 
-ghost use Rattle.std.specs.Prelude.{◌≡◌, ℕ, Bool, ◌+◌, ◌*◌, ◌≤◌, ◌<◌, true, ◌&&◌, cond, eqb};
+ghost use Rattle.std.specs.Prelude.{◌≡◌, ℕ, Bool, ◌+◌, ◌*◌, ◌≤◌, ◌<◌, true, ◌&&◌, cond, eqb, length, []};
 ghost use Rattle.refusals.specs.Table.{first_of};
-ghost use Rattle.refusals.specs.Reasons.{answer_of};
-ghost use Rattle.ranges.specs.Ranges.{most_expansion};
+ghost use Rattle.units.specs.Kinds.{expansion, magnitude};
+ghost use Rattle.refusals.specs.Reasons.{answer_by};
+ghost use Rattle.ranges.specs.Ranges.{most_expansion, grains};
 ghost use Rattle.bits.specs.Field.{within};
 ghost use Rattle.expansion.specs.Points.{most_points};
 ghost use Rattle.curve.specs.Sides.{most_segments};
 ghost use Rattle.sheet.specs.SheetLayout.{most_counted, most_points_counted, sheet_length, longest_sheet};
-ghost use Rattle.sheet.specs.Sheets.{most_tension, segment_count, counted_length, placed, length_right, segment_in, all_below, listed, length_wrong, sheet_field_refusals, sheet_refusals, sheet_of};
-ghost use Rattle.sheet.specs.ReaderAnswers.{right_or_field, ReadsEach, counts_of, counts_in, constants_in, yields_in, header_in, segments_read, point_read, points_read, side_falls, values_in};
+ghost use Rattle.sheet.specs.Sheets.{most_tension, segment_count, counted_length, length_right, segment_in, all_below, listed, length_wrong, sheet_field_refusals, sheet_refusals, sheet_of, expansion_in, point_count, coefficients_by};
+ghost use Rattle.sheet.specs.ReaderAnswers.{right_or_field, ReadsEach, read_into, no_segments, no_points, Unread, counts_of, counts_in, constants_in, yields_in, header_in, side_read, point_read, points_read, coefficients_read, side_falls, values_in};
 
 use bits::Bounds;
 use curve::{Segment, Side};
-use expansion::{Coefficients, Point};
+use expansion::{Coefficients, Point, Points};
 use law::Law;
 use refusals::Reason;
 use units::{Expansion, Length, Magnitude, Modulus, Tenths};
@@ -29,6 +30,7 @@ const POINTS: Bounds<u64> = Bounds {
 };
 
 // What a sheet that passes says: yields in grains, lengths in nano, tangents and Young's modulus in MPa.
+// The compression side is no `Option`: the law says whether there is one.
 #[derive(Clone, Copy)]
 pub struct Sheet {
     pub law: Law,
@@ -48,7 +50,7 @@ struct Counts {
     points: usize,
 }
 
-// Young's modulus, the single expansion and the reference temperature.
+// Young's modulus, the single expansion, which is 0 beside points, and the reference temperature: what the fields hold.
 #[derive(Clone, Copy)]
 struct Constants {
     modulus: Modulus,
@@ -56,7 +58,7 @@ struct Constants {
     reference: Tenths,
 }
 
-// The yield stress of each side.
+// The yield stress of each side, 0 for one that the law hasn't: what the fields hold.
 #[derive(Clone, Copy)]
 struct Yields {
     tension: Magnitude,
@@ -94,6 +96,7 @@ fn bounds_where(used: bool, bounds: Bounds<u64>) -> Bounds<u64>
     }
 }
 
+// Here and below a field is read by `let .. else`, the form that is named for it (DECISIONS.md, Forms).
 #[tactic(auto, using(bits::proofs::FieldLaws::field_below), unfolding(bits::specs::Field::some_if, crate::specs::Sheets::sheet_counts_right))]
 fn read_counts(s: &[u8]) -> Result<Counts, Reason>
     ensures { result ≡ counts_in s.now }
@@ -208,36 +211,39 @@ fn read_segment(s: &[u8], first: usize, count: usize, i: usize) -> Result<Segmen
     })
 }
 
-// `count` things that stand one behind another, each in its place of an array. The readers of many values are written out where they are
-// called, so that arrays aren't copied from answer to answer: a single pair takes a tenth less.
+// Things that stand one behind another, each into its place. The readers of many values are written out where they are called, and read
+// into a sheet that they are lent, so that no array is copied from answer to answer.
 #[inline(always)]
-fn read_each<T: Copy, F: Fn(usize) -> Result<T, Reason>, const PLACES: usize>(
-    count: usize,
-    empty: T,
+fn read_each<T: Copy, F: Fn(usize) -> Result<T, Reason>>(
+    places: &mut [T],
     read: F,
-) -> Result<[T; PLACES], Reason>
-    requires fits { count ≤ PLACES }
-    requires callable { (i : ℕ) → i < count → F.pre read i }
-    ensures { (right : ℕ → Bool) (thing : ℕ → T) → ReadsEach (F.post read) right thing count → result ≡ right_or_field (all_below right count) (placed PLACES empty (listed thing 0 count)) }
+) -> Result<(), Reason>
+    requires { (i : ℕ) → i < length places.old → F.pre read i }
+    ensures { (right : ℕ → Bool) (thing : ℕ → T) → ReadsEach (F.post read) right thing (length places.old) → read_into places.new result ≡ right_or_field (all_below right (length places.old)) (listed thing 0 (length places.old)) }
 {
-    let mut things = [empty; PLACES];
-    for i in 0..count {
-        things[i] = read(i)?;
+    for (i, place) in places.iter_mut().enumerate() {
+        *place = read(i)?;
     }
-    Ok(things)
+    Ok(())
 }
 
-// The segments of a side: `count` of them, from segment `first` of the sheet on.
+// A side: its yield stress, and `count` segments, from segment `first` of the sheet on.
 #[inline(always)]
-fn read_segments(
+fn read_side(
     s: &[u8],
+    yield_stress: Magnitude,
     first: usize,
     count: usize,
-) -> Result<[Segment; curve::MOST_SEGMENTS], Reason>
-    requires { (first ≤ most_segments) × (count ≤ most_segments) }
-    ensures { result ≡ segments_read s.now first count }
+    side: &mut Side,
+) -> Result<(), Reason>
+    requires { (first ≤ most_segments) × (count ≤ most_segments) × (side.old.segments ≡ no_segments) }
+    ensures { (yield : ℕ) → yield_stress ≡ magnitude (yield * grains) → read_into side.new result ≡ side_read s.now yield first count }
 {
-    read_each(count, NO_SEGMENT, |i| read_segment(s, first, count, i))
+    side.yield_stress = yield_stress;
+    side.count = count;
+    read_each(&mut side.segments[..count], |i| {
+        read_segment(s, first, count, i)
+    })
 }
 
 #[tactic(auto, using(crate::proofs::SheetLaws::few_segments), unfolding(bits::specs::Field::some_if))]
@@ -270,15 +276,50 @@ const NO_POINT: Point = Point {
     coefficient: Expansion(0),
 };
 
-// The points, behind the segments that the counts say.
+// The points, behind `segments` segments.
+#[inline(always)]
+fn read_points(s: &[u8], segments: usize, points: &mut Points) -> Result<(), Reason>
+    requires { (segments ≡ segment_count s.now) × (points.old.count ≡ point_count s.now) × (points.old.count ≤ most_points) × (points.old.places ≡ no_points) }
+    ensures { read_into points.new result ≡ points_read s.now }
+{
+    let count = points.count;
+    read_each(&mut points.places[..count], |i| read_point(s, segments, i))
+}
+
+// What a sheet says of expansion before its points are read.
+#[inline(always)]
+fn unread(single: Expansion, count: usize) -> Coefficients
+    ensures { result ≡ coefficients_by count single.0 [] }
+{
+    if count == 0 {
+        Coefficients::Single(single)
+    } else {
+        Coefficients::AtPoints(Points {
+            count,
+            places: [NO_POINT; expansion::MOST_POINTS],
+        })
+    }
+}
+
+// What the sheet says of expansion: the single number, or the points where there are any.
 #[tactic(auto, using(crate::proofs::SheetLaws::few_segments))]
 #[inline(always)]
-fn read_points(s: &[u8], counts: Counts) -> Result<[Point; expansion::MOST_POINTS], Reason>
-    requires { (counts ≡ counts_of s.now) × (counts.points ≤ most_points) }
-    ensures { result ≡ points_read s.now }
+fn read_coefficients(
+    s: &[u8],
+    counts: Counts,
+    single: Expansion,
+    coefficients: &mut Coefficients,
+) -> Result<(), Reason>
+    requires { (counts ≡ counts_of s.now) × (counts.points ≤ most_points) × (single ≡ expansion (expansion_in s.now)) }
+    ensures { read_into coefficients.new result ≡ coefficients_read s.now }
 {
-    let segments = counts.tension + counts.compression;
-    read_each(counts.points, NO_POINT, |i| read_point(s, segments, i))
+    *coefficients = unread(single, counts.points);
+    match coefficients {
+        Coefficients::Single(_) => Ok(()),
+        Coefficients::AtPoints(points) => {
+            read_points(s, counts.tension + counts.compression, points)
+        }
+    }
 }
 
 // Whether each tangent of a side is below Young's modulus and not above the one before it.
@@ -310,47 +351,44 @@ fn tangents_fall(sheet: &Sheet) -> bool
 // All that the bytes say, where each field is right.
 #[tactic(auto, unfolding(crate::specs::Sheets::sheet_of))]
 #[inline(always)]
-fn read_values(s: &[u8]) -> Result<Sheet, Reason>
-    ensures { result ≡ values_in s.now }
+fn read_values(s: &[u8], sheet: &mut Sheet) -> Result<(), Reason>
+    requires { Unread sheet.old }
+    ensures { read_into sheet.new result ≡ values_in s.now }
 {
     let Header {
         counts,
         constants,
         yields,
     } = read_header(s)?;
-    let tension = read_segments(s, 0, counts.tension)?;
-    let compression = read_segments(s, counts.tension, counts.compression)?;
-    let points = read_points(s, counts)?;
-    Ok(Sheet {
-        law: counts.law,
-        modulus: constants.modulus,
-        expansion: Coefficients {
-            single: constants.expansion,
-            count: counts.points,
-            points,
-        },
-        reference: constants.reference,
-        tension: Side {
-            yield_stress: yields.tension,
-            count: counts.tension,
-            segments: tension,
-        },
-        compression: Side {
-            yield_stress: yields.compression,
-            count: counts.compression,
-            segments: compression,
-        },
-    })
+    let Counts {
+        law,
+        tension,
+        compression,
+        ..
+    } = counts;
+    sheet.law = law;
+    sheet.modulus = constants.modulus;
+    sheet.reference = constants.reference;
+    read_side(s, yields.tension, 0, tension, &mut sheet.tension)?;
+    read_side(
+        s,
+        yields.compression,
+        tension,
+        compression,
+        &mut sheet.compression,
+    )?;
+    read_coefficients(s, counts, constants.expansion, &mut sheet.expansion)
 }
 
 // Refusals 2, 3 and 13, for bytes whose length is right.
 #[tactic(auto, unfolding(refusals::specs::Table::first_of, crate::specs::Sheets::sheet_field_refusals))]
 #[inline(always)]
-fn read_fields(s: &[u8]) -> Result<Sheet, Reason>
-    ensures { answer_of result ≡ first_of (sheet_field_refusals s.now) (sheet_of s.now) }
+fn read_fields(s: &[u8], sheet: &mut Sheet) -> Result<(), Reason>
+    requires { Unread sheet.old }
+    ensures { answer_by (λ _. sheet.new) result ≡ first_of (sheet_field_refusals s.now) (sheet_of s.now) }
 {
-    let sheet = read_values(s)?;
-    let falls = tangents_fall(&sheet);
+    read_values(s, sheet)?;
+    let falls = tangents_fall(sheet);
     let rises = sheet.expansion.rise();
     if !falls {
         return Err(Reason::SheetTangent);
@@ -358,7 +396,7 @@ fn read_fields(s: &[u8]) -> Result<Sheet, Reason>
     if !rises {
         return Err(Reason::PointOrder);
     }
-    Ok(sheet)
+    Ok(())
 }
 
 // How long a sheet is by its own counts, valid or not.
@@ -380,14 +418,31 @@ fn length_wrong(s: &[u8]) -> bool
     s.len() < layout::HEADER_LENGTH || s.len() != counted_length(s)
 }
 
-// Refusals 1, 2, 3 and 13, of any bytes.
+// A sheet before it is read.
+const NO_SIDE: Side = Side {
+    yield_stress: Magnitude(0),
+    count: 0,
+    segments: [NO_SEGMENT; curve::MOST_SEGMENTS],
+};
+
+const NO_SHEET: Sheet = Sheet {
+    law: Law::IsotropicLine,
+    modulus: Modulus(0),
+    expansion: Coefficients::Single(Expansion(0)),
+    reference: Tenths(0),
+    tension: NO_SIDE,
+    compression: NO_SIDE,
+};
+
+// Refusals 1, 2, 3 and 13, of any bytes. The lent sheet has empty places (`Unread`): a type for it would have one value.
 #[tactic(auto, unfolding(refusals::specs::Table::first_of, crate::specs::Sheets::sheet_refusals))]
 #[inline(always)]
-fn read(s: &[u8]) -> Result<Sheet, Reason>
-    ensures { answer_of result ≡ first_of (sheet_refusals s.now) (sheet_of s.now) }
+fn read(s: &[u8], sheet: &mut Sheet) -> Result<(), Reason>
+    requires { Unread sheet.old }
+    ensures { answer_by (λ _. sheet.new) result ≡ first_of (sheet_refusals s.now) (sheet_of s.now) }
 {
     if length_wrong(s) {
         return Err(Reason::SheetLength);
     }
-    read_fields(s)
+    read_fields(s, sheet)
 }

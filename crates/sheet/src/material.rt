@@ -23,16 +23,18 @@ impl Material {
     ghost use Rattle.sheet.specs.Sheets.{sheet_refusals, sheet_of};
     ghost use Rattle.sheet.specs.Thermal.{thermal_of};
 
-    // Reads any bytes: the sheet, or why it is refused.
-    #[tactic(auto, using(crate::proofs::Passed::passed_sound))]
+    // Reads any bytes: the sheet, or why it is refused. It stands alone: written out where it is called, what it needs would stay on the stack.
+    #[inline(never)]
     pub fn read(s: &[u8]) -> Result<Material, Reason>
         ensures { answer_by (λ (m : Material). m.sheet) result ≡ first_of (sheet_refusals s.now) (sheet_of s.now) }
     {
-        let sheet = crate::read(s)?;
+        let mut sheet = crate::NO_SHEET;
+        crate::read(s, &mut sheet)?;
         Ok(Material { sheet })
     }
 
-    // The thermal strain at a temperature (SPEC 5.1).
+    // The thermal strain at a temperature (SPEC 5.1). That it is in range is asked here and below, and by `Reached::of`: no fact of a type, since
+    // definitions make rods and pairs of any numbers.
     pub fn thermal(&self, temperature: Tenths) -> Nano
         requires { temperature_right temperature.0 ≡ true }
         ensures value { result ≡ nano (thermal_of self.now.sheet temperature.0) }

@@ -1,14 +1,12 @@
 -- Refusal 5 by the tests of the single fields: one that fails gives 5, and where none fails the rod passes. A variable's test goes by the law.
 use Prim.Native.Nat.{ℕ, zero, suc}
-use mathlib.Core.Path.{◌≡◌, refl, sym, ap, ◌∙◌}
+use mathlib.Core.Path.{◌≡◌, refl}
 use mathlib.Core.Bool.{Bool, true, false, ◌&&◌, and-false, true≢false}
 use mathlib.Core.List.{List, [], ◌∷◌}
-use lib.IntN.{ℤ}
 use lib.Dec.{eqb}
 use lib.ListN.{get_or}
 use Rattle.refusals.specs.Table.{first_of, passes, refused}
 use Rattle.ranges.specs.Ranges.{around, temperature_right, most_strain, most_stress}
-use Rattle.bits.specs.Field.{some_if}
 use Rattle.rod.specs.declared.Rod.{Rod}
 use Rattle.rod.specs.Variables.{first_right, second_right}
 use Rattle.rod.specs.InRange.{counts_right, rod_in_range}
@@ -70,7 +68,3 @@ module _ (s : List ℕ) where
   pub passed_by : AllTrue (tests s) → passes (state_of s) ≡ first_of (state_field_refusals s) (state_of s)
   unfolding first_of state_field_refusals
   passed_by (z, f) = rw (z, in_range_is (state_of s), all_true (strain_test (state_of s)) (other_tests (state_of s)) f)
-
--- A variable's answer by what a test of the law came to.
-pub answer_by : (right : Bool → Bool) (z : ℤ) {t u v : Bool} → t ≡ v → t ≡ u → some_if (right u) z ≡ some_if (right v) z
-answer_by right z e f = ap (λ (b : Bool). some_if (right b) z) (sym f ∙ e)

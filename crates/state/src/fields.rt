@@ -8,6 +8,7 @@ ghost use Rattle.state.specs.States.{state_of};
 use crate::layout;
 use bits::Bounds;
 use law::Law;
+use rod::variables;
 
 #[tactic(auto, using(bits::proofs::FieldLaws::field_below))]
 pub fn law(s: &[u8]) -> Law
@@ -19,13 +20,11 @@ pub fn law(s: &[u8]) -> Law
 pub fn first(s: &[u8], law: Law) -> Option<i64>
     ensures { result ≡ some_if (first_right law (state_of s.now).first.0) (state_of s.now).first.0 }
 {
-    if law.first_is_abscissa() {
-        return layout::FIRST.read_within(s, ranges::ABSCISSA);
-    }
-    layout::FIRST.read_within(s, ranges::STRESS)
+    layout::FIRST.read_within(s, variables::first_bounds(law))
 }
 
-// Any second variable is read where the law has none (SPEC 8.3).
+// Any second variable is read where the law has none (SPEC 8.3): then it has no bounds, and is no field within some.
+#[tactic(auto, using(bits::proofs::LayoutLaws::word_of_field), unfolding(bits::specs::Field::some_if))]
 pub fn second(s: &[u8], law: Law) -> Option<i64>
     ensures { result ≡ some_if (second_right law (state_of s.now).second.0) (state_of s.now).second.0 }
 {

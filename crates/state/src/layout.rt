@@ -51,3 +51,9 @@ pub const YIELDED_PAIRS: Field = Field {
     at: PAIRS.at + PAIRS.width,
     width: 32,
 };
+
+// The fields before the strain, which are written as one.
+pub const FRONT: Field = Field {
+    at: LAW.at,
+    width: STRAIN.at - LAW.at,
+};

@@ -3,7 +3,7 @@
 
 pub mod entry; // entry.rt: the entries
 mod lengths; // lengths.rt: what is decided by lengths alone
-mod walk; // walk.rt: the pairs, one after another
+pub mod walk; // walk.rt: the pairs, one after another
 
 use refusals::Refused;
 use rod::Rod;

@@ -1,4 +1,4 @@
-// The entries as C calls them (SPEC 9.10): each is thin above the entry of its name.
+// The entries as C calls them (SPEC 9.10): each is thin above the entry of its name. C is told numbers, as include/tie_rod.h says.
 #![tactic(auto)]
 
 ghost use Rattle.std.specs.Prelude.{◌≡◌, ◌^◌, ◌<◌};
@@ -9,7 +9,9 @@ ghost use Rattle.trial.specs.Trials.{keep_leaves, kept, trial_leaves, trial_with
 ghost use Rattle.tie_rod_c.specs.Answers.{forecast_in_one_number, seen, seen_of, trial_seen, trial_seen_of};
 
 use refusals::{Reason, Refused};
+use state::STATE_LENGTH;
 use tie_rod::entry;
+use trial::TRIAL_LENGTH;
 
 // The answer of a call as one number, 0 where nothing was refused.
 fn in_one_number(refused: Option<Refused>) -> u64
@@ -22,7 +24,7 @@ fn in_one_number(refused: Option<Refused>) -> u64
     }
 }
 
-// The same where there is no place.
+// The same where there is no place, and no bound of one to be shown.
 fn number(answer: Result<(), Reason>) -> u64
     ensures { result ≡ answer_number (answer_of answer) }
 {
@@ -33,6 +35,7 @@ fn number(answer: Result<(), Reason>) -> u64
 }
 
 // A whole run (SPEC 9.6).
+#[tactic(auto, using(tie_rod::proofs::Numbers::reply_small, tie_rod::proofs::Numbers::call_small))]
 #[unsafe(no_mangle)]
 pub extern "C" fn tie_rod_run(
     sheet: &[u8],
@@ -47,6 +50,7 @@ pub extern "C" fn tie_rod_run(
 }
 
 // A single pair (SPEC 9.6).
+#[tactic(auto, using(tie_rod::proofs::Numbers::reply_small, tie_rod::proofs::Numbers::call_small))]
 #[unsafe(no_mangle)]
 pub extern "C" fn tie_rod_pair(
     sheet: &[u8],
@@ -61,6 +65,7 @@ pub extern "C" fn tie_rod_pair(
 }
 
 // A trial (SPEC 16.2, 16.6).
+#[tactic(auto, using(tie_rod::proofs::Numbers::reply_small, tie_rod::proofs::Numbers::call_small, trial::proofs::TrialLaws::trial_single))]
 #[unsafe(no_mangle)]
 pub extern "C" fn tie_rod_trial(
     sheet: &[u8],
@@ -68,7 +73,7 @@ pub extern "C" fn tie_rod_trial(
     pair: &[u8],
     row: &mut [u8],
     next: &mut [u8],
-    trial: &mut [u8; 75],
+    trial: &mut [u8; TRIAL_LENGTH],
 ) -> u64
     ensures { trial_seen (seen result row.new next.new) trial.new ≡ trial_seen_of (trial_leaves sheet.now state.now (trial_with pair.now row.old next.old)) }
 {
@@ -77,13 +82,14 @@ pub extern "C" fn tie_rod_trial(
 
 // The keeping of a trial (SPEC 16.5, 16.6). Its answer has no place.
 #[unsafe(no_mangle)]
-pub extern "C" fn tie_rod_keep(trial: &[u8; 75], state: &[u8], next: &mut [u8]) -> u64
+pub extern "C" fn tie_rod_keep(trial: &[u8; TRIAL_LENGTH], state: &[u8], next: &mut [u8]) -> u64
     ensures { kept result next.new ≡ keep_leaves trial.now state.now next.old }
 {
     number(trial::keep(trial, state, next))
 }
 
 // The tangent modulus that a state forecasts (SPEC 9.8).
+#[tactic(auto, using(crate::proofs::Bounds::forecast_small))]
 #[unsafe(no_mangle)]
 pub extern "C" fn tie_rod_forecast(sheet: &[u8], state: &[u8]) -> u64
     ensures { result ≡ forecast_in_one_number (forecast_answer sheet.now state.now) }
@@ -96,7 +102,7 @@ pub extern "C" fn tie_rod_forecast(sheet: &[u8], state: &[u8]) -> u64
 
 // An unused rod (SPEC 9.9).
 #[unsafe(no_mangle)]
-pub extern "C" fn tie_rod_unused(sheet: &[u8], state: &mut [u8; 37]) -> u64
+pub extern "C" fn tie_rod_unused(sheet: &[u8], state: &mut [u8; STATE_LENGTH]) -> u64
     ensures value { result ≡ answer_number (unused_answer sheet.now) }
     ensures state { state.new ≡ unused_left (unused_answer sheet.now) }
 {

@@ -15,7 +15,9 @@ use state::STATE_LENGTH;
 use tie_rod::{Reply, entry};
 
 // Where everything stands in a trial's bytes (SPEC 16.3): its number in the first, its start, its next state.
-const START_AT: usize = 1;
+const NUMBER_AT: usize = 0;
+
+const START_AT: usize = NUMBER_AT + 1;
 
 const NEXT_AT: usize = START_AT + STATE_LENGTH;
 
@@ -27,7 +29,7 @@ fn write_refused(reason: Reason, trial: &mut [u8; TRIAL_LENGTH])
     ensures { trial.new ≡ refused_bytes (number_of reason) }
 {
     *trial = [0; TRIAL_LENGTH];
-    trial[0] = u64::from(reason) as u8;
+    trial[NUMBER_AT] = u8::from(reason);
 }
 
 // An accepted trial has number 0, the state that it started from and the one that it came to.
@@ -36,7 +38,7 @@ fn write_accepted(start: &[u8], next: &[u8], trial: &mut [u8; TRIAL_LENGTH])
     requires { (length start.now ≡ state_length) × (length next.now ≡ state_length) }
     ensures { trial.new ≡ accepted_bytes start.now next.now }
 {
-    trial[0] = 0;
+    trial[NUMBER_AT] = 0;
     trial[START_AT..NEXT_AT].copy_from_slice(start);
     trial[NEXT_AT..].copy_from_slice(next);
 }
@@ -77,7 +79,7 @@ fn check(tried: &[u8; TRIAL_LENGTH], state: &[u8], next: usize) -> Result<(), Re
     if next != STATE_LENGTH {
         return Err(Reason::LentBuffer);
     }
-    if tried[0] != 0 || !is_start(tried, state) {
+    if tried[NUMBER_AT] != 0 || !is_start(tried, state) {
         return Err(Reason::TrialNotOfState);
     }
     Ok(())

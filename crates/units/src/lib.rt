@@ -213,6 +213,7 @@ impl Scaled for Tenths {
     type Product = Nano;
 }
 
+// Not `Scaled`: an offset is a bare number.
 impl Curvature {
     // The strain at an offset in mm.
     pub fn strain_at(self, offset: i64) -> Nano
@@ -237,7 +238,7 @@ impl Tenths {
 }
 
 impl Grain {
-    // A magnitude with its sign put back.
+    // A magnitude with its sign put back. Without one it is taken for a stress here too: a `From` couldn't ask that it fits.
     pub fn of(negative: bool, size: Magnitude) -> Grain
         requires { size.0 < 2 ^ 63 }
         ensures value { result ≡ grain (with_sign negative size.0) }
@@ -247,6 +248,7 @@ impl Grain {
     }
 }
 
+// Not `Scaled`, which is of kinds with a sign.
 impl Length {
     // MPa times nano is grains (SPEC 2.1).
     pub fn times(self, modulus: Modulus) -> Magnitude
@@ -257,6 +259,7 @@ impl Length {
     }
 }
 
+// Not a `Quantity`, which has a sign.
 impl Magnitude {
     pub fn plus(self, other: Magnitude) -> Magnitude
         requires { self.0 + other.0 < 2 ^ 64 }
@@ -294,7 +297,7 @@ impl Magnitude {
     }
 }
 
-// A magnitude with its sign put back.
+// A magnitude with its sign put back. The sign is the answer of a test, and a type of its own would be a bool by another name.
 pub fn with_sign(negative: bool, size: u64) -> i64
     requires { size < 2 ^ 63 }
     ensures value { result ≡ with_sign negative size }

@@ -1,31 +1,38 @@
 use Rattle.std.proofs.Common.{arith, ℕ, zero, suc, ◌≤◌, ◌<◌, ◌+◌, ◌-◌, ◌/◌, ◌%◌, ◌≡◌, sym, ap, ◌∙◌, List, length}
 use Rattle.std.proofs.Math.ListN.{set}
 use Rattle.bits.specs.Layout.{bytes_of, put}
-use Rattle.bits.proofs.PutLaws.{length_bytes_of, put_nothing, put_store}
+use Rattle.bits.proofs.PutLaws.{length_bytes_of, put_nothing, put_store, put_whole}
 use Rattle.bits.proofs.write.Goals as goal
 
--- One turn: the last of the bytes still to be put is stored.
-turn : (buffer : List ℕ) (at left rest : ℕ) → 0 < left → at + left ≤ length buffer
-    → put (set buffer (at + (left - 1)) (rest % 256)) at (bytes_of (left - 1) (rest / 256)) ≡ put buffer at (bytes_of left rest)
-unfolding bytes_of
-turn buffer at zero rest h room = absurd (omega arith)
-turn buffer at (suc n) rest h room =
-    let one : suc n - 1 ≡ n = omega arith in
-    let long = length_bytes_of n (rest / 256) in
-    rw (one) (ap (λ (k : ℕ). put (set buffer (at + k) (rest % 256)) at (bytes_of n (rest / 256))) (sym long) ∙ put_store buffer at (bytes_of n (rest / 256)) (rest % 256) (rw long (omega arith)))
+module _ (part : List ℕ) (left rest : ℕ) {whole : List ℕ} (is : put part 0 (bytes_of left rest) ≡ whole) where
+  -- One turn: the last of the bytes still to be put is stored.
+  turn : 0 < left → left ≤ length part → put (set part (left - 1) (rest % 256)) 0 (bytes_of (left - 1) (rest / 256)) ≡ whole
+  unfolding bytes_of
+  turn some room = stored left some room ∙ is
+    where
+      stored : (left : ℕ) → 0 < left → left ≤ length part
+          → put (set part (left - 1) (rest % 256)) 0 (bytes_of (left - 1) (rest / 256)) ≡ put part 0 (bytes_of left rest)
+      stored zero some room = absurd (omega arith)
+      stored (suc n) some room =
+          let one : suc n - 1 ≡ n = omega arith in
+          let long : length (bytes_of n (rest / 256)) ≡ n = length_bytes_of n (rest / 256) in
+          let place : n ≡ 0 + length (bytes_of n (rest / 256)) = omega arith in
+          rw one (ap (λ (k : ℕ). put (set part k (rest % 256)) 0 (bytes_of n (rest / 256))) place ∙ put_store part 0 (bytes_of n (rest / 256)) (rest % 256) (omega arith))
 
-pub loop-done-preserved : goal.loop-done-preserved
-loop-done-preserved g c =
-    let l = c.loop-done in
-    let left = c.args.count - l.done in
-    let place : c.args.count - 1 - l.done ≡ left - 1 = omega arith in
-    let fewer : c.args.count - (l.done + 1) ≡ left - 1 = omega arith in
-    rw (place, fewer) (turn l.buffer c.args.at left l.rest (omega arith) (omega arith) ∙ l.invariant)
+  -- Nothing is left to be put.
+  ended : left ≤ 0 → part ≡ whole
+  unfolding bytes_of
+  ended most =
+      let none : 0 ≡ left = omega arith in
+      sym (put_nothing part 0) ∙ ap (λ (k : ℕ). put part 0 (bytes_of k rest)) none ∙ is
+
+pub loop-i-init : goal.loop-i-init
+loop-i-init g c =
+    let n = length c.args.part.now in
+    put_whole c.args.part.now (bytes_of n c.bits-rest.result) (sym (length_bytes_of n c.bits-rest.result))
+
+pub loop-i-preserved : goal.loop-i-preserved
+loop-i-preserved g c = turn c.loop-i.part c.loop-i.i c.loop-i.rest c.loop-i.invariant c.loop-i-test.true (omega (arith, c.loop-i.auto.part, c.loop-i.auto.i))
 
 pub returns : goal.returns
-unfolding bytes_of
-returns g c =
-    let l = c.loop-done in
-    let none : 0 ≡ c.args.count - l.done = omega arith in
-    sym (put_nothing l.buffer c.args.at) ∙ ap (λ (n : ℕ). put l.buffer c.args.at (bytes_of n l.rest)) none ∙ l.invariant
-    ∙ ap (λ (x : ℕ). put c.args.buffer.now c.args.at (bytes_of c.args.count x)) c.bits-rest.ensures
+returns g c = ended c.loop-i.part c.loop-i.i c.loop-i.rest c.loop-i.invariant c.loop-i-test.false ∙ ap (bytes_of (length c.args.part.now)) c.bits-rest.ensures

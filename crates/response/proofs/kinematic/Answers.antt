@@ -1,29 +1,24 @@
 use Rattle.std.proofs.Common.{rules, ◌≡◌, ◌<◌, ◌≤◌, ap, ◌∙◌, nat_abs}
 use lib.IntN.{◌-ℤ◌}
 use Rattle.units.specs.declared.Grain.{Grain}
-use Rattle.units.specs.Kinds.{modulus}
 use Rattle.units.specs.Signs.{is_neg}
 use Rattle.sheet.specs.Sound.{tangent_of}
-use Rattle.response.specs.declared.Flowed.{Flowed}
-use Rattle.response.specs.SideFlows.{flow_toward}
 use Rattle.response.proofs.Branches.{within_radius_elastic, past_radius_flows}
 use Rattle.response.proofs.kinematic.Goals as goal
 
 pub returns-then-not-passes : goal.returns-then-not-passes
 returns-then-not-passes c =
-    let size : c.magnitude-size.result.0 ≡ nat_abs (c.args.trial.0 -ℤ c.args.centre.0) = rw (c.magnitude-size.ensures, c.minus-distance.ensures.value) in
+    let size : c.magnitude-size.result.0 ≡ nat_abs (c.args.trial.stress.0 -ℤ c.args.centre.0) = rw (c.magnitude-size.ensures, c.minus-distance.ensures.value) in
     let within : c.magnitude-size.result.0 ≤ c.args.material.now.sheet.tension.yield_stress.0 = search rules in
-    within_radius_elastic c.args.material.now.sheet.modulus.0 (tangent_of c.args.material.now.sheet.tension 0) c.args.material.now.sheet.tension.yield_stress.0 c.args.centre.0 c.args.trial.0 (rw size at within)
+    within_radius_elastic c.args.material.now.sheet.modulus.0 (tangent_of c.args.material.now.sheet.tension 0) c.args.material.now.sheet.tension.yield_stress.0 c.args.centre.0 c.args.trial.stress.0 (rw size at within)
 
 pub returns : goal.returns
 returns c =
-    let size : c.magnitude-size.result.0 ≡ nat_abs (c.args.trial.0 -ℤ c.args.centre.0) = rw (c.magnitude-size.ensures, c.minus-distance.ensures.value) in
+    let size : c.magnitude-size.result.0 ≡ nat_abs (c.args.trial.stress.0 -ℤ c.args.centre.0) = rw (c.magnitude-size.ensures, c.minus-distance.ensures.value) in
     let past : c.args.material.now.sheet.tension.yield_stress.0 < c.magnitude-size.result.0 = search rules in
-    let flowed : Flowed = record { stress = c.plus-stress.result; variable = c.plus-moved.result; tangent = modulus (tangent_of c.args.material.now.sheet.tension 0) } in
-    let to = c.toward.ensures ∙ ap (λ (g : Grain). flow_toward (is_neg g.0) flowed) c.minus-distance.ensures.value in
-    let negative : c.negative-negative.result ≡ is_neg (c.args.trial.0 -ℤ c.args.centre.0) = c.negative-negative.ensures ∙ ap (λ (g : Grain). is_neg g.0) c.minus-distance.ensures.value in
+    let negative : c.negative-negative.result ≡ is_neg (c.args.trial.stress.0 -ℤ c.args.centre.0) = c.negative-negative.ensures ∙ ap (λ (g : Grain). is_neg g.0) c.minus-distance.ensures.value in
     rw (
-      to,
+      c.toward.ensures,
       c.plus-stress.ensures.value,
       c.of-2.ensures.value,
       c.plus-moved.ensures.value,
@@ -33,4 +28,4 @@ returns c =
       negative,
       size,
     )
-    (past_radius_flows c.args.material.now.sheet.modulus.0 (tangent_of c.args.material.now.sheet.tension 0) c.args.material.now.sheet.tension.yield_stress.0 c.args.centre.0 c.args.trial.0 (rw size at past))
+    (past_radius_flows c.args.material.now.sheet.modulus.0 (tangent_of c.args.material.now.sheet.tension 0) c.args.material.now.sheet.tension.yield_stress.0 c.args.centre.0 c.args.trial.stress.0 (rw size at past))

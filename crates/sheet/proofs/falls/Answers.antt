@@ -1,12 +1,12 @@
 -- Each segment that the loop takes is the side's own.
-use Rattle.std.proofs.Common.{rules, arith, true, false, Bool, ◌&&◌, ◌≡◌, ◌<◌, ◌≤◌, ◌+◌, ◌-◌, ℕ, length, take, get_or, cond, ne_eqb, sym, ap, ◌∙◌}
+use Rattle.std.proofs.Common.{rules, arith, Bool, ◌&&◌, ◌≡◌, ◌<◌, ◌≤◌, ◌-◌, ℕ, length, take, get_or, cond, sym, ap, ◌∙◌}
 use lib.Dec.{eqb, ltb, leb}
 use lib.Seq.{get_or-take, length-take-le}
 use Rattle.curve.specs.declared.Segment.{Segment}
 use Rattle.curve.specs.declared.Side.{Side}
 use Rattle.curve.specs.Sides.{flat, tangent_of}
 use Rattle.sheet.specs.ReaderAnswers.{tangent_falls}
-use Rattle.sheet.proofs.SheetLaws.{all_below_stops, all_below_more}
+use Rattle.sheet.proofs.SheetLaws.{all_below_stops}
 use Rattle.sheet.proofs.TangentLaws.{tangent_rule}
 use Rattle.sheet.proofs.falls.Goals as goal
 
@@ -29,21 +29,3 @@ returns-then-not-keeps c =
     let seven : length side.segments ≡ 7 = search rules in
     let more : i < side.count = omega (arith, taken side seven c.requires, c.loop-segment-test.true) in
     sym (all_below_stops (tangent_falls side c.args.modulus.0) i side.count more (rule side seven c.requires c.args.modulus.0 i more (search rules)))
-
-pub loop-segment-preserved : goal.loop-segment-preserved
-loop-segment-preserved c =
-    let side = c.args.side in
-    let i = c.loop-segment.segment-index in
-    let seven : length side.segments ≡ 7 = search rules in
-    let more : i < side.count = omega (arith, taken side seven c.requires, c.loop-segment-test.true) in
-    let back : i + 1 - 1 ≡ i = omega arith in (
-      all_below_more (tangent_falls side c.args.modulus.0) i c.loop-segment.invariant.0 (rule side seven c.requires c.args.modulus.0 i more (search rules)),
-      rw (ne_eqb (i + 1) 0 (λ e. omega arith), back) (own side seven c.requires i more),
-    )
-
-pub returns : goal.returns
-returns c =
-    let side = c.args.side in
-    let seven : length side.segments ≡ 7 = search rules in
-    let all : side.count ≡ c.loop-segment.segment-index = omega (arith, taken side seven c.requires, c.loop-segment-test.false, c.loop-segment.auto.segment-index-end) in
-    rw all (sym c.loop-segment.invariant.0)

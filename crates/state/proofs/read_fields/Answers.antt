@@ -2,16 +2,14 @@
 use Rattle.std.proofs.Common.{ℕ, arith, List, Bool, ◌≡◌, sym, ap, ◌∙◌}
 use mathlib.Core.Path.{ap₂}
 use lib.IntN.{ℤ}
-use lib.Dec.{eqb}
 use Rattle.refusals.specs.Table.{passes}
 use Rattle.law.specs.declared.Law.{Law}
 use Rattle.units.specs.Kinds.{nano, tenths, grain}
-use Rattle.bits.specs.Layout.{field_at}
 use Rattle.bits.proofs.RangeLaws.{some_if_none, some_if_some, within_itself}
 use Rattle.bits.proofs.LayoutLaws.{word_of_field}
 use Rattle.rod.specs.Variables.{first_right, second_right}
 use Rattle.rod.specs.InRange.{counts_right}
-use Rattle.state.specs.States.{state_layout, state_of, zero_bits}
+use Rattle.state.specs.States.{state_of, zero_bits}
 use Rattle.state.proofs.ReadLaws.{refused_by, passed_by}
 use Rattle.state.proofs.read_fields.Goals as goal
 
@@ -20,9 +18,9 @@ under : (s : List ℕ) {l : Law} (right : Law → ℤ → Bool) (z : ℤ) {t : B
 under s right z e h = ap (λ (k : Law). right k z) (sym e) ∙ h
 
 -- The test of the counts by the numbers that were read.
-counts : (s : List ℕ) {y n : ℕ} {t : Bool} → y ≡ field_at state_layout s 1 → n ≡ (state_of s).pairs → counts_right (eqb y 1) n (state_of s).yielded_pairs ≡ t
+counts : (s : List ℕ) {y : Bool} {n : ℕ} {t : Bool} → y ≡ (state_of s).yielded → n ≡ (state_of s).pairs → counts_right y n (state_of s).yielded_pairs ≡ t
     → counts_right (state_of s).yielded (state_of s).pairs (state_of s).yielded_pairs ≡ t
-counts s e f h = ap₂ (λ (y n : ℕ). counts_right (eqb y 1) n (state_of s).yielded_pairs) (sym e) (sym f) ∙ h
+counts s e f h = ap₂ (λ (y : Bool) (n : ℕ). counts_right y n (state_of s).yielded_pairs) (sym e) (sym f) ∙ h
 
 pub returns-in_default : goal.returns-in_default
 returns-in_default c =
@@ -51,7 +49,7 @@ returns-in_default-second c =
 pub returns-in_default-yielded_pairs : goal.returns-in_default-yielded_pairs
 returns-in_default-yielded_pairs c =
     let s = c.args.s.now in
-    refused_by s 6 (counts s c.read-mark.ensures c.read-pairs.ensures (some_if_none _ _ (sym c.in_default-yielded_pairs.ensures)))
+    refused_by s 6 (counts s c.is_set-yielded.ensures c.read-pairs.ensures (some_if_none _ _ (sym c.in_default-yielded_pairs.ensures)))
 
 pub returns : goal.returns
 returns c =
@@ -72,11 +70,11 @@ returns c =
     let zero_right = sym (within_itself 0 (zero_bits s)) ∙ zero.0 in
     let first_holds = under s first_right (state_of s).first.0 law first.0 in
     let second_holds = under s second_right (state_of s).second.0 law second.0 in
-    let counts_hold = counts s c.read-mark.ensures c.read-pairs.ensures k.0 in
+    let counts_hold = counts s c.is_set-yielded.ensures c.read-pairs.ensures k.0 in
     ap passes
     (λ i. record {
       law = law i;
-      yielded = eqb (c.read-mark.ensures i) 1;
+      yielded = c.is_set-yielded.ensures i;
       strain = nano (strain_is i);
       temperature = tenths (temperature_is i);
       stress = grain (stress_is i);

@@ -20,31 +20,32 @@ use Rattle.grade.proofs.entry.grade_on.Goals as goal
 few : (pairs : List ℕ) {n : ℕ} → first_of (list_refusals (length pairs)) (count_in pairs) ≡ passes n → count_in pairs ≤ most_pairs
 few pairs listed = let counted = list_counts run (length pairs) listed in subst (λ (n : ℕ). n ≤ most_pairs) counted.0 counted.1
 
-pub returns-in-Err-clause-result_value : goal.returns-in-Err-clause-result_value
-returns-in-Err-clause-result_value c =
+pub returns-in_err-material-clause-result_value : goal.returns-in_err-material-clause-result_value
+returns-in_err-material-clause-result_value c =
     λ sheet e.
     let a = c.args in
-    let stops = standing_stops sheet a.state.now (grading a.pairs.now a.rows.now a.tolerance) (sheet_stops sheet a.state.now _ (material_told e c.in-Err.is)) in
-    rw (c.from.ensures) (sym stops)
+    let stops = standing_stops sheet a.state.now (grading a.pairs.now a.rows.now a.tolerance) (sheet_stops sheet a.state.now _ (material_told e c.in_err-material.was)) in
+    let exit = err_from_is_err_and c.from_residual.result c.from_residual.ensures.1 in
+    rw (exit.1, exit.2) (sym stops)
 
 pub returns-in_err-standing-clause-result_value : goal.returns-in_err-standing-clause-result_value
 returns-in_err-standing-clause-result_value c =
     λ sheet e.
     let a = c.args in
-    let stops = standing_stops sheet a.state.now (grading a.pairs.now a.rows.now a.tolerance) (sym (c.in_err-standing.ensures ∙ sheet_goes_on sheet a.state.now (material_told e c.in-Ok.is))) in
-    let exit = err_from_is_err_and c.from_residual.result c.from_residual.ensures.1 in
+    let stops = standing_stops sheet a.state.now (grading a.pairs.now a.rows.now a.tolerance) (sym (c.in_err-standing.ensures ∙ sheet_goes_on sheet a.state.now (material_told e c.in_ok-material.was))) in
+    let exit = err_from_is_err_and c.from_residual-in_err-standing.result c.from_residual-in_err-standing.ensures.1 in
     rw (exit.1, exit.2) (sym stops)
 
 pub returns-in_err-count-clause-result_value : goal.returns-in_err-count-clause-result_value
 returns-in_err-count-clause-result_value c =
     λ sheet e.
     let a = c.args in
-    let stops = list_stops sheet a.state.now (grading a.pairs.now a.rows.now a.tolerance) (sym (c.in_ok-standing.ensures ∙ sheet_goes_on sheet a.state.now (material_told e c.in-Ok.is))) (sym c.in_err-count.ensures) in
+    let stops = list_stops sheet a.state.now (grading a.pairs.now a.rows.now a.tolerance) (sym (c.in_ok-standing.ensures ∙ sheet_goes_on sheet a.state.now (material_told e c.in_ok-material.was))) (sym c.in_err-count.ensures) in
     let exit = err_from_is_err_and c.from_residual-in_err-count.result c.from_residual-in_err-count.ensures.1 in
     rw (exit.1, exit.2) (sym stops)
 
-pub compare-requires : goal.compare-requires
-compare-requires c = few c.args.pairs.now (sym c.in_ok-count.ensures)
+pub invariant_of-table : goal.invariant_of-table
+invariant_of-table c = record { few = few c.args.pairs.now (sym c.in_ok-count.ensures) }
 
 pub returns-in_err-compared-clause-result_value : goal.returns-in_err-compared-clause-result_value
 returns-in_err-compared-clause-result_value c =
@@ -57,10 +58,7 @@ returns-in_err-compared-clause-result_value c =
     let exit = err_from_is_err_and c.from_residual-in_err-compared.result c.from_residual-in_err-compared.ensures.1 in
     rw (exit.1, exit.2)
     (compared_refused g walked (reason_numbered reason).0 told
-    ∙ sym (list_walked sheet a.state.now g (sym (c.in_ok-standing.ensures ∙ sheet_goes_on sheet a.state.now (material_told e c.in-Ok.is))) (sym c.in_ok-count.ensures)))
-
-pub check-requires : goal.check-requires
-check-requires c = few c.args.pairs.now (sym c.in_ok-count.ensures)
+    ∙ sym (list_walked sheet a.state.now g (sym (c.in_ok-standing.ensures ∙ sheet_goes_on sheet a.state.now (material_told e c.in_ok-material.was))) (sym c.in_ok-count.ensures)))
 
 pub returns-in_err-check-clause-result_value : goal.returns-in_err-check-clause-result_value
 returns-in_err-check-clause-result_value c =
@@ -77,7 +75,7 @@ returns-in_err-check-clause-result_value c =
     let exit = err_from_is_err_and c.from_residual-in_err-check.result c.from_residual-in_err-check.ensures.1 in
     rw (exit.1, exit.2)
     (ap verdict_by (sym stops) ∙ compared_last g walked told
-    ∙ sym (list_walked sheet a.state.now g (sym (c.in_ok-standing.ensures ∙ sheet_goes_on sheet a.state.now (material_told e c.in-Ok.is))) (sym c.in_ok-count.ensures)))
+    ∙ sym (list_walked sheet a.state.now g (sym (c.in_ok-standing.ensures ∙ sheet_goes_on sheet a.state.now (material_told e c.in_ok-material.was))) (sym c.in_ok-count.ensures)))
 
 pub returns-clause-result_value : goal.returns-clause-result_value
 returns-clause-result_value c =
@@ -91,4 +89,4 @@ returns-clause-result_value c =
     subst (λ (d : ℤ). passes d ≡ first_of (grading_refusals (grading a.pairs.now a.rows.now d)) d) same c.in_ok-check.ensures in
     let all = passes_anyhow (grading_refusals g) a.tolerance (verdict 0 0 (row_told c.in_ok-compared.compared)) (sym own) in
     ap verdict_by (sym all) ∙ compared_last g walked told
-    ∙ sym (list_walked sheet a.state.now g (sym (c.in_ok-standing.ensures ∙ sheet_goes_on sheet a.state.now (material_told e c.in-Ok.is))) (sym c.in_ok-count.ensures))
+    ∙ sym (list_walked sheet a.state.now g (sym (c.in_ok-standing.ensures ∙ sheet_goes_on sheet a.state.now (material_told e c.in_ok-material.was))) (sym c.in_ok-count.ensures))

@@ -29,8 +29,8 @@ strain_stays : (c : After-strain_right) → c.strain_right.result ≡ true → s
 unfolding strain_leaves
 strain_stays c past = ap not (sym (strain_is c) ∙ past)
 
-pub respond-response-requires-clause-variables : goal.respond-response-requires-clause-variables
-respond-response-requires-clause-variables c =
+pub respond-response-requires : goal.respond-response-requires
+respond-response-requires c =
     let rod = c.args.self in
     let sheet = c.args.material.now.sheet in
     let accepted = c.requires.accepted.0 in
@@ -42,7 +42,7 @@ respond-response-requires-clause-variables c =
 outcome_is : (c : After-respond-response) → response_meaning c.respond-response.result ≡ outcome_after c.args.material.now.sheet c.args.self c.args.pair
 outcome_is c =
     let a = c.args in
-    c.respond-response.ensures ∙ ap (λ (g : Grain). outcome_of a.material.now.sheet a.self.first.0 a.self.second.0 g.0) c.trial_stress.ensures.value
+    c.respond-response.ensures ∙ ap (λ (g : Grain). outcome_of a.material.now.sheet a.self.first.0 a.self.second.0 g.0) c.trial_stress.ensures
 
 -- and the range test goes over it.
 leaves_is : (c : After-leaves_range) → response_meaning c.respond-response.result ≡ outcome_after c.args.material.now.sheet c.args.self c.args.pair

@@ -7,5 +7,5 @@ use Rattle.section.proofs.each.next.Goals as goal
 -- The rod that is kept is the one that the trial came to, and its state fits.
 pub with_state-requires : goal.with_state-requires
 with_state-requires c =
-    let x = c.args.movement in
+    let x = c.args.movement.now in
     subst StateFits (sym (ap (λ (r : Reached). r.rod) c.keep.ensures.reached)) (member_passed x.material.sheet x.change c.args.member x.material.sound (sym c.in-Ok.ensures)).next.fits

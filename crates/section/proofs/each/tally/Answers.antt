@@ -19,7 +19,7 @@ counted_on x sums m right answer = rw (right, answer)
 pub returns-in-Ok : goal.returns-in-Ok
 returns-in-Ok c =
     let a = c.args in
-    let x = a.movement in
+    let x = a.movement.now in
     c.added.ensures
     ∙ sym (counted_on x c.in_ok-sums.sums a.member (sym c.right.ensures ∙ c.if-not-right.false) (sym c.in-Ok.ensures))
     ∙ ap (λ (t : Result Sums Refused). tally_of x (tally_meaning t) a.member) (sym c.in_ok-sums.was)

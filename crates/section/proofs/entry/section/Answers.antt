@@ -1,4 +1,4 @@
-use Rattle.std.proofs.Common.{◌≡◌, rules, length, subst, ◌∙◌, Result, Ok, Err, w64}
+use Rattle.std.proofs.Common.{◌≡◌, rules, length, refl, subst, ◌∙◌, Result, Ok, Err, w64}
 use mir.Facts.{to_z-of_z}
 use Rattle.std.proofs.lemmas.Result.{err_from_is_err_and}
 use Rattle.refusals.specs.declared.Reason.{Reason}
@@ -38,8 +38,8 @@ returns-in_err-sums c =
     let p = err_from_is_err_and c.from_residual-in_err-sums.result c.from_residual-in_err-sums.ensures.1 in
     let x = c.in_ok-movement.movement in
     rw (p.1, p.2)
-    (section_is a.sheet.now (change_of a.mean a.curvature a.temperature) a.members.now c.settle.new.members x _
-    (opened_so (goal.at.returns-in_err-sums c).Start (Ok x) c.in_ok-movement.ensures) c.in_err-sums.ensures.tally c.in_err-sums.ensures.members)
+    (section_is a.sheet.now (change_of a.mean a.curvature a.temperature) a.members.now c.settle.new.members (Ok x) x _
+    (opened_so (goal.at.returns-in_err-sums c).Start (Ok x) c.in_ok-movement.ensures) refl c.in_err-sums.ensures.tally c.in_err-sums.ensures.members)
 
 pub returns : goal.returns
 returns c =
@@ -49,5 +49,5 @@ returns c =
     let force = to_z-of_z {w = w64} {z = sums.force} (search rules) in
     let moment = to_z-of_z {w = w64} {z = sums.moment} (search rules) in
     (λ i. section_left (record { number = 0; place = 0; force = force i; moment = moment i }) c.settle.new.members)
-    ∙ section_is a.sheet.now (change_of a.mean a.curvature a.temperature) a.members.now c.settle.new.members x _
-    (opened_so (goal.at.returns c).Start (Ok x) c.in_ok-movement.ensures) c.in_ok-sums.ensures.tally c.in_ok-sums.ensures.members
+    ∙ section_is a.sheet.now (change_of a.mean a.curvature a.temperature) a.members.now c.settle.new.members (Ok x) x _
+    (opened_so (goal.at.returns c).Start (Ok x) c.in_ok-movement.ensures) refl c.in_ok-sums.ensures.tally c.in_ok-sums.ensures.members

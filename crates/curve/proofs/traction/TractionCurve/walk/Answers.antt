@@ -31,13 +31,9 @@ turn c =
 own : (c : After-times-own_rise) → get_or (take (c.args.self.side.now.count - 1) c.args.self.side.now.segments) c.loop-segment.segment-index flat ≡ get_or c.args.self.side.now.segments c.loop-segment.segment-index flat
 own c = get_or-take (c.args.self.side.now.count - 1) c.args.self.side.now.segments c.loop-segment.segment-index flat (turn c)
 
--- so its span
+-- so its span is that segment's.
 span : (c : After-times-own_rise) → c.times-span.result.0 ≡ c.args.self.modulus.0 * length_at c.args.self.side.now c.loop-segment.segment-index
 span c = let same = own c in cc (number c.times-span.ensures)
-
--- and its rise are that segment's.
-own_rise : (c : After-times-own_rise) → c.times-own_rise.result.0 ≡ tangent_of c.args.self.side.now c.loop-segment.segment-index * length_at c.args.self.side.now c.loop-segment.segment-index
-own_rise c = let same = own c in cc (number c.times-own_rise.ensures)
 
 pub returns-then-lt-clause-value : goal.returns-then-lt-clause-value
 returns-then-lt-clause-value c =
@@ -46,15 +42,21 @@ returns-then-lt-clause-value c =
     (stop c.loop-segment.invariant (inr (omega (arith, turn here), omega (arith, span here, before))) c.reading.result (rw (c.plus.ensures, own here) at c.reading.ensures) c.args.abscissa refl).0
 
 -- What is carried on is the rise so far and the segment's own.
-carried_on : (c : After-plus-rise) → c.times-own_rise.result.0 ≡ tangent_of c.args.self.side.now c.loop-segment.segment-index * length_at c.args.self.side.now c.loop-segment.segment-index
-    → c.plus-rise.result.0 ≡ c.loop-segment.rise.0 + tangent_of c.args.self.side.now c.loop-segment.segment-index * length_at c.args.self.side.now c.loop-segment.segment-index
-carried_on c own-rise = omega (arith, number c.plus-rise.ensures)
+carried_on : (c : After-plus-rise) → c.plus-rise.result.0 ≡ c.loop-segment.rise.0 + tangent_of c.args.self.side.now c.loop-segment.segment-index * length_at c.args.self.side.now c.loop-segment.segment-index
+carried_on c =
+    let side = c.args.self.side.now in
+    let i = c.loop-segment.segment-index in
+    let inv = c.loop-segment.invariant in
+    let turn : i < side.count - 1 = omega (arith, length_taken side inv.readable.count_fits inv.array, c.loop-segment-test.true) in
+    let same = get_or-take (side.count - 1) side.segments i flat turn in
+    let own : c.times-own_rise.result.0 ≡ tangent_of side i * length_at side i = cc (number c.times-own_rise.ensures) in
+    omega (arith, number c.plus-rise.ensures, own)
 
 pub loop-segment-preserved : goal.loop-segment-preserved
 loop-segment-preserved c =
     let here = (goal.at.loop-segment-preserved c).After-times-own_rise in
     let ends : c.times-span.result.0 ≤ c.loop-segment.past.0 = search rules in
-    onward c.loop-segment.invariant (omega (arith, turn here)) (omega (arith, span here, ends)) (carried_on c (own_rise here)) (omega (arith, number c.minus-past-in-loop-segment.ensures, span here))
+    onward c.loop-segment.invariant (omega (arith, turn here)) (omega (arith, span here, ends)) (carried_on (goal.at.loop-segment-preserved c).After-plus-rise) (omega (arith, number c.minus-past-in-loop-segment.ensures, span here))
 
 pub returns-clause-value : goal.returns-clause-value
 returns-clause-value c =

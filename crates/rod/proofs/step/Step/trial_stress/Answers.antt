@@ -39,9 +39,9 @@ plus-requires c =
     let at = goal.at.plus-requires c in
     omega (arith, (ranged c.args.self.rod c.args.self.accepted.in_range).stress, c.times.ensures.size, elastic_stress at.After-minus-elastic (few_nano at.After-minus-thermal))
 
-pub returns-clause-value : goal.returns-clause-value
+pub returns : goal.returns
 unfolding trial_of
-returns-clause-value c =
+returns c =
     let a = c.args.self in
     let e = pos a.material.now.sheet.modulus.0 in
     let s = a.rod.stress.0 in
@@ -50,7 +50,7 @@ returns-clause-value c =
     ∙ ap (λ (n : Nano). grain (s +ℤ e *ℤ (a.pair.change.0 -ℤ n.0))) c.minus-thermal.ensures.value
     ∙ ap (λ (w : ThermalStrains). grain (s +ℤ e *ℤ (a.pair.change.0 -ℤ (w.after.0 -ℤ w.before.0)))) c.args.self.thermals_own
 
-pub returns-clause-most : goal.returns-clause-most
-returns-clause-most c =
-    let at = goal.at.returns-clause-most c in
+pub invariant_of-result : goal.invariant_of-result
+invariant_of-result c =
+    let at = goal.at.invariant_of-result c in
     omega (arith, c.plus.ensures.most, (ranged c.args.self.rod c.args.self.accepted.in_range).stress, c.times.ensures.size, elastic_stress at.After-minus-elastic (few_nano at.After-minus-thermal))
