@@ -12,8 +12,9 @@ use lib.ListN.{length}
 use Rattle.std.specs.Prelude.{Result, Ok, Err, IsErr}
 use Rattle.refusals.specs.declared.Refused.{Refused}
 use Rattle.refusals.proofs.ReasonLaws.{reason_numbered}
-use Rattle.refusals.specs.Table.{Refusal, Answer, passes, refused, first_of}
+use Rattle.refusals.specs.Table.{passes, refused, first_of}
 use Rattle.refusals.proofs.FirstLaws.{stops_first, goes_on, refused_anyhow, passes_anyhow}
+use Rattle.refusals.proofs.Numbered.{numbered, told_anyhow}
 use Rattle.bits.specs.Field.{Held}
 use Rattle.bits.specs.Layout.{offset, width_at}
 use Rattle.bits.proofs.LayoutLaws.{whole_of_field}
@@ -161,10 +162,6 @@ compared_last g w {row} e = by_number (eqb w.number 0) refl
 
 -- ---- The same with number, place and first row apart
 
--- An answer told by its number, where 0 says that the value passes.
-abbrev pub numbered : {A : Type 0} → (number : ℕ) → A → Answer A
-numbered number value = cond (eqb number 0) (passes value) (refused number)
-
 -- What the pairs of a list come to beside their rows: number and place of a refused pair, and the first row outside the tolerance.
 pub record Compared : Type 0 where
   pub number : ℕ
@@ -183,14 +180,6 @@ before_own c = cond (eqb c.number 0) (verdict 0 0 c.first) (verdict c.number c.p
 -- and with `own`, which is 16, 17 or 0.
 abbrev pub settled : Compared → (own : ℕ) → Verdict
 settled c own = cond (eqb c.number 0) (verdict_by (numbered own (verdict 0 0 c.first))) (verdict c.number c.place 0)
-
--- What a number tells of a table doesn't depend on the value.
-told_anyhow : {A B : Type 0} (n : ℕ) (table : List Refusal) (v : A) (w : B) → numbered n v ≡ first_of table v → numbered n w ≡ first_of table w
-told_anyhow n table v w e = by_number (eqb n 0) e
-  where
-    by_number : (b : Bool) → cond b (passes v) (refused n) ≡ first_of table v → cond b (passes w) (refused n) ≡ first_of table w
-    by_number true e = sym (passes_anyhow table v w (sym e))
-    by_number false e = sym (refused_anyhow table v w n (sym e))
 
 -- Whatever tells of a walk what the code tells of it, settled with the number that tells 16 and 17, is the verdict:
 pub settled_told : (g : Grading) (w : Walk) (c : Compared) (own : ℕ) (d : ℤ) → numbered own d ≡ first_of (grading_refusals g) d
