@@ -5,7 +5,9 @@ pub mod traction; // traction.rt: a side with Young's modulus, and its reading
 
 ghost use Rattle.std.specs.Prelude.{◌≡◌, ◌+◌, ◌*◌, ◌/◌, ◌^◌, ◌≤◌, ◌<◌};
 ghost use Rattle.units.specs.Kinds.{magnitude};
+ghost use Rattle.curve.specs.Sides.{Readable, reading_of};
 
+use traction::TractionCurve;
 use units::{Length, Magnitude, Modulus};
 
 // A straight part of the curve (SPEC 3.8). The last segment of a side has no end; its length is 0.
@@ -45,5 +47,17 @@ impl Segment {
         let tangent = self.tangent;
         let limit = start.plus(past.share(tangent, modulus));
         Reading { limit, tangent }
+    }
+}
+
+impl Side {
+    // The reading of a side by value.
+    pub fn at(self, modulus: Modulus, abscissa: Magnitude) -> Reading
+        requires { Readable self modulus }
+        ensures value { result ≡ reading_of self modulus abscissa }
+        ensures most { result.limit.0 ≤ abscissa.0 }
+    {
+        let side = &self;
+        TractionCurve { side, modulus }.at(abscissa)
     }
 }

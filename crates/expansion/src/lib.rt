@@ -5,7 +5,7 @@ ghost use Rattle.std.specs.Prelude.{◌≡◌, true, ◌+◌, ◌*◌, ◌^◌, 
 ghost use Rattle.std.specs.Int.Signed.{le_z, lt_z};
 ghost use Rattle.fractions.specs.Rounding.{floor_f};
 ghost use Rattle.ranges.specs.Ranges.{temperature_right, most_expansion};
-ghost use Rattle.expansion.specs.Points.{standing, points_of, count_of, places_of, point_right, temperatures_rise, PointsUsable, Usable};
+ghost use Rattle.expansion.specs.Points.{standing, points_of, count_of, most_points, point_right, temperatures_rise, PointsUsable, Usable};
 ghost use Rattle.expansion.specs.Coefficient.{line, coefficient_in, coefficient_of};
 
 use units::{Expansion, Tenths};
@@ -103,9 +103,9 @@ impl Points {
 impl Coefficients {
     // Whether the temperatures of the points rise strictly, as those of none do.
     #[tactic(auto, unfolding(crate::specs::Points::temperatures_rise))]
-    pub fn rise(&self) -> bool
-        requires { count_of self.now ≤ length (places_of self.now) }
-        ensures { result ≡ temperatures_rise (points_of self.now) }
+    pub fn rise(self) -> bool
+        requires { count_of self ≤ most_points }
+        ensures { result ≡ temperatures_rise (points_of self) }
     {
         match self {
             Coefficients::Single(_) => true,

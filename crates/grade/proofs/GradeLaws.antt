@@ -10,7 +10,9 @@ use lib.IntN.{ℤ, pos, negsuc, nat_abs}
 use lib.Dec.{eqb}
 use lib.ListN.{length}
 use Rattle.std.specs.Prelude.{Result, Ok, Err, IsErr}
+use Rattle.refusals.specs.declared.Reason.{Reason}
 use Rattle.refusals.specs.declared.Refused.{Refused}
+use Rattle.refusals.specs.Reasons.{number_of, answer_by, answer_of}
 use Rattle.refusals.proofs.ReasonLaws.{reason_numbered}
 use Rattle.refusals.specs.Table.{passes, refused, first_of}
 use Rattle.refusals.proofs.FirstLaws.{stops_first, goes_on, refused_anyhow, passes_anyhow}
@@ -27,13 +29,13 @@ use Rattle.state.specs.States.{state_of}
 use Rattle.carry.specs.Walk.{rows_of, Walk, walk}
 use Rattle.judge.specs.Standing.{Ready, ready_of, standing_refusals}
 use Rattle.judge.proofs.JudgeLaws.{standing_accepted}
-use Rattle.tie_rod.specs.Calls.{piece_at, count_in, pairs_in, place_of, Walked, walked_of}
+use Rattle.tie_rod.specs.Calls.{answer_number, piece_at, count_in, pairs_in, place_of, Walked, walked_of}
 use Rattle.tie_rod.specs.Visiting.{Visited}
 use Rattle.grade.specs.declared.Grade.{Grade}
 use Rattle.grade.specs.declared.table.Table.{Table}
 use Rattle.grade.specs.declared.Grade.TheVariants.{Accepted, Differs}
-use Rattle.grade.specs.Grades.{row_told, RowFromOne, CasesApart, Grading, stress_at, agrees, first_outside, Verdict, verdict, grading_refusals, verdict_by, verdict_on, grade_of}
-use Rattle.grade.specs.Comparing.{with_row, compared_of}
+use Rattle.grade.specs.Grades.{row_told, RowFromOne, CasesApart, Grading, stress_at, agrees, first_outside, Verdict, verdict, grading_refusals, verdict_by, verdict_on, grade_meaning, grade_of}
+use Rattle.grade.specs.Comparing.{with_row, compared_of, settled_by}
 
 -- A stress in a row is far from the ends of 64 bits.
 pub stress_small : (z : ℤ) → Held (width_at row_layout 3) z → nat_abs z < 2 ^ 62
@@ -195,3 +197,30 @@ settled_told g w c own d e told = by_number (eqb c.number 0) refl told
 pub settled_is : (g : Grading) (w : Walk) (own : ℕ) (d : ℤ) → numbered own d ≡ first_of (grading_refusals g) d
     → settled (compared_apart g.tolerance g.rows w) own ≡ verdict_on g w
 settled_is g w own d e = settled_told g w (compared_apart g.tolerance g.rows w) own d e refl
+
+-- ---- What the code settles
+
+-- A refused pair's verdict stays.
+pub err_settled : (r : Refused) (own : Result (Unit {0}) Reason) → grade_meaning (Err r) ≡ settled_by (grade_meaning (Err r)) own
+err_settled r own = rw (ne_eqb (number_of r.reason) 0 (reason_numbered r.reason).0)
+
+-- An answer of the code is told by its number.
+pub told_by_number : {A : Type 0} (own : Result (Unit {0}) Reason) (v : A) → answer_by (λ _. v) own ≡ numbered (answer_number (answer_of own)) v
+told_by_number (Ok u) v = refl
+told_by_number (Err reason) v = rw (ne_eqb (number_of reason) 0 (reason_numbered reason).0)
+
+-- What was compared, settled with 16 or 17, is the verdict.
+pub settled_by_is : (g : Grading) (w : Walk) (own : Result (Unit {0}) Reason) → answer_by (λ _. g.tolerance) own ≡ first_of (grading_refusals g) g.tolerance
+    → settled_by (compared_of g.tolerance g.rows w) own ≡ verdict_on g w
+settled_by_is g w own told =
+    by_number (eqb w.number 0) refl ∙ settled_is g w (answer_number (answer_of own)) g.tolerance (sym (told_by_number own g.tolerance) ∙ told)
+  where
+    here : Verdict
+    here = verdict 0 0 (first_outside g.tolerance g.rows 0 (rows_of w.advances))
+
+    there : Verdict
+    there = verdict w.number (place_of w) 0
+
+    by_number : (b : Bool) → eqb w.number 0 ≡ b → settled_by (cond b here there) own ≡ cond b (verdict_by (numbered (answer_number (answer_of own)) here)) there
+    by_number true is = ap verdict_by (told_by_number own here)
+    by_number false is = rw is

@@ -2,7 +2,7 @@
 #![tactic(auto)]
 
 ghost use Rattle.std.specs.Prelude.{◌≡◌, ◌+◌, ◌*◌, ◌^◌, ◌≤◌, ◌<◌, length, take, drop};
-ghost use Rattle.bits.specs.Layout.{filled, packed};
+ghost use Rattle.bits.specs.Layout.{filled, packed, put};
 ghost use Rattle.row.specs.Rows.{RowFits, row_bytes, row_layout, row_length, row_of, row_values};
 
 use bits::Field;
@@ -88,9 +88,19 @@ impl Row {
         (marks << TANGENT.width) + self.tangent.0
     }
 
+    // Writes the row at a place of a lent buffer.
+    #[tactic(auto, using(bits::proofs::PutLaws::put_cut, crate::proofs::RowLaws::length_row))]
+    pub fn write(self, buffer: &mut [u8], at: usize)
+        requires { (at + row_length ≤ length buffer.old) × RowFits self }
+        ensures { buffer.new ≡ put buffer.old at (row_bytes self) }
+    {
+        let to = at + ROW_LENGTH;
+        self.fill(&mut buffer[at..to]);
+    }
+
     // Writes the row where it is to stand.
     #[tactic(auto, using(crate::proofs::RowLaws::put_row, bits::proofs::SignLaws::passed))]
-    pub fn write(self, row: &mut [u8])
+    fn fill(self, row: &mut [u8])
         requires { (length row.old ≡ row_length) × RowFits self }
         ensures { row.new ≡ row_bytes self }
     {

@@ -12,7 +12,7 @@ use borrow.Author.Tests.{leb-true}
 use lib.Dec.{eqb, leb}
 use lib.Seq.{take_at}
 use Rattle.std.proofs.lemmas.List.{drop-replicate}
-use Rattle.std.specs.Prelude.{Result, Ok, Err}
+use Rattle.std.specs.Prelude.{Option, Result, Ok, Err}
 use Rattle.std.specs.Result.{IsErrAnd}
 use Rattle.std.proofs.lemmas.Result.{err_from_is_err_and}
 use Rattle.refusals.specs.declared.Reason.{Reason}
@@ -23,7 +23,7 @@ use Rattle.expansion.specs.declared.Points.{Points}
 use Rattle.expansion.specs.declared.Coefficients.TheVariants.{Single, AtPoints}
 use Rattle.units.specs.declared.Expansion.{Expansion}
 use Rattle.expansion.specs.Points.{most_points, no_point, points_of}
-use Rattle.bits.specs.Field.{within}
+use Rattle.bits.specs.Field.{some_if, within}
 use Rattle.bits.proofs.FieldLaws.{field_at_below}
 use Rattle.sheet.specs.SheetLayout.{header_layout, most_points_counted}
 use Rattle.sheet.specs.Sheets.{law_in, tension_count, compression_count, point_count, sheet_counts_right, constants_right, yields_right, header_right, most_tension, compression_of, all_below, listed, placed, expansion_in, point_in, points_in, points_by, coefficients_by, coefficients_in}
@@ -50,6 +50,10 @@ points_fit s right =
     let counts = (three_hold (sheet_counts_right s) (constants_right s (point_count s)) (yields_right s (law_in s)) right).0 in
     let points = (three_hold (within 1 (most_tension (law_in s)) (tension_count s)) (eqb (compression_count s) (compression_of (law_in s))) (within 0 most_points (point_count s)) counts).2 in
     (within_bounds 0 most_points (point_count s) points).1
+
+-- What a reader answers under its bounds, where these are the rule.
+pub read_under : {A : Type 0} {answer : Option A} {bounds right : Bool} (x : A) → bounds ≡ right → answer ≡ some_if bounds x → some_if right x ≡ answer
+read_under x same e = ap (λ (t : Bool). some_if t x) (sym same) ∙ sym e
 
 -- A test that holds below i and at i holds below i + 1,
 pub all_below_more : (test : ℕ → Bool) (i : ℕ) → all_below test i ≡ true → test i ≡ true → all_below test (i + 1) ≡ true

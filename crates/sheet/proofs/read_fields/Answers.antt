@@ -1,13 +1,13 @@
 -- The sheet that was read is the bytes', and its tests are theirs.
-use Rattle.std.proofs.Common.{length, ℕ, List, Ok, true, false, ◌&&◌, ◌≤◌, ◌≡◌, ap}
+use Rattle.std.proofs.Common.{ℕ, List, Ok, true, false, ◌&&◌, ◌≤◌, ◌≡◌, ap}
 use mathlib.Core.Path.{ap₂}
 use Rattle.refusals.specs.Table.{first_of}
-use Rattle.expansion.specs.Points.{points_of, count_of, places_of, temperatures_rise}
+use Rattle.expansion.specs.Points.{most_points, points_of, count_of, temperatures_rise}
 use Rattle.sheet.specs.declared.Sheet.{Sheet}
 use Rattle.sheet.specs.Sheets.{tension_count, compression_count, tension_yield, compression_yield, point_count, expansion_in, header_right, lengths_right, tangents_right, both_sides, point_in, points_in, points_right, sheet_field_refusals, sheet_of}
 use Rattle.sheet.specs.ReaderAnswers.{side_falls, values_in}
 use Rattle.sheet.proofs.SheetLaws.{few_segments, points_fit, points_held, read_tells}
-use Rattle.sheet.proofs.Passed.{held_in_places}
+use Rattle.sheet.proofs.Passed.{held_few}
 use Rattle.sheet.proofs.TangentLaws.{side_falls_as}
 use Rattle.refusals.proofs.FirstLaws.{three_hold}
 use Rattle.sheet.proofs.read_fields.Goals as goal
@@ -20,11 +20,11 @@ module _ (s : List ℕ) {h : Sheet} (read : Ok h ≡ values_in s) where
   unfolding sheet_of
   few = rw is.1 (few_segments s)
 
-  few_points : count_of h.expansion ≤ length (places_of h.expansion)
+  few_points : count_of h.expansion ≤ most_points
   unfolding sheet_of
   few_points =
       let few = points_fit s (three_hold (header_right s) (both_sides s (lengths_right s)) (points_right s) is.0).0 in
-      rw is.1 (held_in_places (point_count s) (expansion_in s) (point_in s) few)
+      rw is.1 (held_few (point_count s) (expansion_in s) (point_in s) few)
 
   falls : side_falls h.tension h.modulus.0 && side_falls h.compression h.modulus.0 ≡ both_sides s (tangents_right s)
   unfolding sheet_of
