@@ -48,6 +48,12 @@ if [ -n "$others" ]; then
     echo "$others"
     exit 1
 fi
+own=$(nm -u "$sections" "$gradings" | sed -n 's/^ *[A-Za-z] //p' | sort -u)
+if [ -n "$own" ]; then
+    echo "failed: the archives of sections and of gradings need something of C, and needed nothing:"
+    echo "$own"
+    exit 1
+fi
 
 compile="${CC:-cc} -O2 -Wall -Wextra -Werror -Iinclude"
 for name in firmware solver; do

@@ -70,7 +70,9 @@ impl Points {
         requires { self.now.count ≤ length self.now.places }
         ensures { result ≡ temperatures_rise (standing self.now) }
     {
-        let points = &self.places[..self.count];
+        // A copy: of the places alone it is so short that it needs no memcpy, which one of all points would.
+        let places = self.places;
+        let points = &places[..self.count];
         points.is_sorted_by(|before, after| before.temperature < after.temperature)
     }
 

@@ -1,4 +1,4 @@
--- How the code comes to a verdict (SPEC 17.4): row by row, with the first that is outside the tolerance so far; cited by the contracts of
+-- How the code comes to a verdict (SPEC 17.4, 17.5): row by row, with the first that is outside the tolerance so far; cited by the contracts of
 -- this crate alone. Definitions only, nothing is assumed.
 use Rattle.std.specs.Prelude.{ℕ, ◌+◌, Bool, cond, List, ℤ, eqb, Result}
 use Rattle.refusals.specs.declared.Reason.{Reason}

@@ -1,9 +1,5 @@
 // The entry of a grading (SPEC 17).
-ghost use Rattle.std.specs.Prelude.{◌≡◌, ℕ, List};
-ghost use Rattle.refusals.specs.Table.{first_of};
-ghost use Rattle.refusals.specs.Reasons.{answer_by};
-ghost use Rattle.sheet.specs.Sheets.{sheet_refusals, sheet_of};
-ghost use Rattle.sheet.specs.declared.material.Material.{Material};
+ghost use Rattle.std.specs.Prelude.{◌≡◌};
 ghost use Rattle.grade.specs.Grades.{CasesApart, grade_meaning, grade_of, grading};
 ghost use Rattle.grade.specs.Comparing.{settled_by};
 
@@ -24,34 +20,8 @@ fn verdict(compared: Result<Grade, Refused>, own: Result<(), Reason>) -> Result<
     Ok(grade)
 }
 
-// Grades a table on a sheet that was read. 16 and 17 are looked at before the pairs are walked, which is quicker, and told
-// behind. It stands alone, so that what is needed here takes no stack while the sheet is read.
-#[inline(never)]
+// Grades a table of rows (SPEC 17). 16 and 17 are looked at before the pairs are walked, which is quicker, and told behind.
 #[tactic(auto, using(crate::proofs::GradeLaws::err_apart))]
-fn grade_on(
-    read: Result<Material, Reason>,
-    state: &[u8],
-    pairs: &[u8],
-    rows: &[u8],
-    tolerance: i64,
-) -> Result<Grade, Refused>
-    ensures result_value { (sheet : List ℕ) → answer_by (λ (m : Material). m.sheet) read ≡ first_of (sheet_refusals sheet) (sheet_of sheet) → grade_meaning result ≡ grade_of sheet state.now (grading pairs.now rows.now tolerance) }
-    ensures apart { CasesApart result }
-{
-    let material = read?;
-    let standing = judge::judge_state(&material, state)?;
-    pair::count(pairs.len())?;
-    let table = Table {
-        pairs,
-        rows,
-        tolerance,
-    };
-    let own = table.check();
-    let compared = table.compare(standing);
-    verdict(compared, own)
-}
-
-// Grades a table of rows (SPEC 17).
 pub fn grade(
     sheet: &[u8],
     state: &[u8],
@@ -62,5 +32,15 @@ pub fn grade(
     ensures result_value { grade_meaning result ≡ grade_of sheet.now state.now (grading pairs.now rows.now tolerance) }
     ensures apart { CasesApart result }
 {
-    grade_on(Material::read(sheet), state, pairs, rows, tolerance)
+    let mut material = Material::unread();
+    let standing = judge::judge(sheet, state, &mut material)?;
+    pair::count(pairs.len())?;
+    let table = Table {
+        pairs,
+        rows,
+        tolerance,
+    };
+    let own = table.check();
+    let compared = table.compare(standing);
+    verdict(compared, own)
 }

@@ -6,9 +6,8 @@ pub mod judged; // judged.rt: a sheet and a state that passed together
 ghost use Rattle.std.specs.Prelude.{◌≡◌};
 ghost use Rattle.refusals.specs.Table.{first_of};
 ghost use Rattle.state.specs.States.{state_of};
-ghost use Rattle.judge.specs.Standing.{holder_refusals, judged_meaning, ready_of, standing_meaning, standing_refusals};
+ghost use Rattle.judge.specs.Standing.{holder_refusals, ready_of, standing_meaning, standing_refusals};
 
-use crate::judged::Judged;
 use carry::Reached;
 use carry::standing::Standing;
 use refusals::Reason;
@@ -27,12 +26,16 @@ pub fn judge_state<'a>(material: &'a Material, state: &[u8]) -> Result<Standing<
     Ok(Standing { material, reached })
 }
 
-// Refusals 1 to 6 and 13, of any bytes.
-pub fn judge(sheet: &[u8], state: &[u8]) -> Result<Judged, Reason>
-    ensures { judged_meaning result ≡ first_of (standing_refusals sheet.now state.now) (ready_of sheet.now state.now) }
+// Refusals 1 to 6 and 13, of any bytes. The sheet is read into a lent material, so that it isn't copied from answer to answer; what
+// stands in it beside a refusal is left open.
+#[tactic(auto, using(crate::proofs::JudgeLaws::sheet_stops, crate::proofs::JudgeLaws::sheet_goes_on))]
+pub fn judge<'a>(
+    sheet: &[u8],
+    state: &[u8],
+    material: &'a mut Material,
+) -> Result<Standing<'a>, Reason>
+    ensures { standing_meaning result ≡ first_of (standing_refusals sheet.now state.now) (ready_of sheet.now state.now) }
 {
-    let material = Material::read(sheet)?;
-    let standing = judge_state(&material, state)?;
-    let reached = standing.reached;
-    Ok(Judged { material, reached })
+    Material::read_in(sheet, material)?;
+    judge_state(material, state)
 }

@@ -67,10 +67,14 @@ same_shows Elastic x y s t e shows =
 same_shows Tension x y s t e shows = le_of_parts x y (omega (arith, sub-parts-ℤ y x, sub-parts-ℤ t s, ap up e, ap dn e, le_parts shows))
 same_shows Compression x y s t e shows = le_of_parts y x (omega (arith, sub-parts-ℤ y x, sub-parts-ℤ t s, ap up e, ap dn e, le_parts shows))
 
+-- The stress goes from the trial by the branch: where nothing flows it is the trial.
+pub stress_shows : {h : Sheet} {r : Rod} → Accepted h r → (p : Pair) → let o = outcome_after h r p in Shows o.branch o.stress (trial_of h r p)
+stress_shows {h} {r} accepted p = law_shows h accepted.sound (trial_of h r p) r.first.0 r.second.0 (past_of accepted)
+
 -- E times plastic strain, as it is stored, doesn't go against the branch.
 pub pair_shows : {h : Sheet} {r : Rod} → Accepted h r → (p : Pair) → let o = outcome_after h r p in
     Shows o.branch (plastic_at h r) (plastic_of h (strain_after r p) p.temperature.0 o.stress)
 pair_shows {h} {r} accepted p =
     let o = outcome_after h r p in
     same_shows o.branch (plastic_at h r) (plastic_of h (strain_after r p) p.temperature.0 o.stress) o.stress (trial_of h r p)
-    (plastic_changes h r p o.stress) (law_shows h accepted.sound (trial_of h r p) r.first.0 r.second.0 (past_of accepted))
+    (plastic_changes h r p o.stress) (stress_shows accepted p)

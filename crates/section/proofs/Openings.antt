@@ -32,7 +32,7 @@ module _ (sheet : List ℕ) (members : ℕ) (c : Change) where
   opened_refused r e = record { start = sym (ap start_by e); movement = tt; ready = tt }
 
   pub opened_passes : {h : Sheet} (x : Movement) → first_of (open_refusals sheet members c) (sheet_of sheet) ≡ passes h
-      → x.material.sheet ≡ sheet_of sheet → x.change ≡ c → call_right members c ≡ true → Opened sheet members c (Ok x)
+      → x.material.now.sheet ≡ sheet_of sheet → x.change ≡ c → call_right members c ≡ true → Opened sheet members c (Ok x)
   opened_passes x e same change right =
       let room : Room members (bare_tally 0 0) = record { seen = omega (arith, (change_right members c right).1); force = omega arith; moment = omega arith } in
       record { start = sym (ap start_by e); movement = (same, change); ready = λ goes. room }

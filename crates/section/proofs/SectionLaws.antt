@@ -47,26 +47,26 @@ pub ready_step : (x : Movement) (t : Tally) (m : Member) (n : ℕ) → GoesOn (s
 unfolding tally_of sections_own
 ready_step x t m n ready = by_own (sections_own t) refl
   where
-    by_answer : (a : Answer Advance) → member_answer x.material.sheet x.change m ≡ a → member_right m ≡ true → sections_own t ≡ false → GoesOn n (counted t m a)
+    by_answer : (a : Answer Advance) → member_answer x.material.now.sheet x.change m ≡ a → member_right m ≡ true → sections_own t ≡ false → GoesOn n (counted t m a)
     by_answer (passes a) e right goes done =
         let room = ready goes in
         let stress = a.rod.stress.0 in
-        let most = next_stress_most x.material.sheet x.change m x.material.sound e in
+        let most = next_stress_most x.material.now.sheet x.change m x.material.now.sound e in
         let force : nat_abs (force_of m stress) ≤ most_force = omega (arith, force_magnitude m stress right most, force_most m stress right most) in
         let moment : nat_abs (moment_of m stress) ≤ most_moment = omega (arith, moment_magnitude m stress right most, moment_most m stress right most) in
         room_added t m stress n room force moment
     by_answer (refused number) e right goes done =
         let room = ready goes in record { seen = omega (arith, room.seen); force = omega arith; moment = omega arith }
 
-    by_number : (b : Bool) → member_right m ≡ true → sections_own t ≡ false → GoesOn n (cond b (counted t m (member_answer x.material.sheet x.change m)) t)
-    by_number true right goes = by_answer (member_answer x.material.sheet x.change m) refl right goes
+    by_number : (b : Bool) → member_right m ≡ true → sections_own t ≡ false → GoesOn n (cond b (counted t m (member_answer x.material.now.sheet x.change m)) t)
+    by_number true right goes = by_answer (member_answer x.material.now.sheet x.change m) refl right goes
     by_number false right goes = fewer t (suc n) n (omega arith) ready
 
-    by_right : (b : Bool) → member_right m ≡ b → sections_own t ≡ false → GoesOn n (cond (not b) (bare_tally 14 0) (cond (eqb t.number 0) (counted t m (member_answer x.material.sheet x.change m)) t))
+    by_right : (b : Bool) → member_right m ≡ b → sections_own t ≡ false → GoesOn n (cond (not b) (bare_tally 14 0) (cond (eqb t.number 0) (counted t m (member_answer x.material.now.sheet x.change m)) t))
     by_right true right goes = by_number (eqb t.number 0) right goes
     by_right false wrong goes = λ e. absurd (true≢false e)
 
-    by_own : (b : Bool) → sections_own t ≡ b → GoesOn n (cond b t (cond (not (member_right m)) (bare_tally 14 0) (cond (eqb t.number 0) (counted t m (member_answer x.material.sheet x.change m)) t)))
+    by_own : (b : Bool) → sections_own t ≡ b → GoesOn n (cond b t (cond (not (member_right m)) (bare_tally 14 0) (cond (eqb t.number 0) (counted t m (member_answer x.material.now.sheet x.change m)) t)))
     by_own true own = fewer t (suc n) n (omega arith) ready
     by_own false goes = by_right (member_right m) refl goes
 
@@ -85,7 +85,7 @@ waits x n place [] some = refl
 waits x n place (m ∷ ms) some = by_right (member_right m) (waits x n place ms some)
   where
     by_right : (b : Bool) → tally_all x (bare_tally n (suc place)) ms ≡ cond (all_right ms) (bare_tally n (suc place)) (bare_tally 14 0)
-        → tally_all x (cond (not (eqb n 0) && eqb (suc place) 0) (bare_tally n (suc place)) (cond (not b) (bare_tally 14 0) (cond (eqb n 0) (counted (bare_tally n (suc place)) m (member_answer x.material.sheet x.change m)) (bare_tally n (suc place))))) ms
+        → tally_all x (cond (not (eqb n 0) && eqb (suc place) 0) (bare_tally n (suc place)) (cond (not b) (bare_tally 14 0) (cond (eqb n 0) (counted (bare_tally n (suc place)) m (member_answer x.material.now.sheet x.change m)) (bare_tally n (suc place))))) ms
         ≡ cond (b && all_right ms) (bare_tally n (suc place)) (bare_tally 14 0)
     by_right true behind = rw (ne_eqb n 0 some, ne_eqb (suc place) 0 (λ e. omega (arith, e))) behind
     by_right false behind = rw (ne_eqb n 0 some, ne_eqb (suc place) 0 (λ e. omega (arith, e))) (stands x 14 ms (λ e. omega (arith, e)))
@@ -106,10 +106,10 @@ tallied force moment seen (stopped number place) = bare_tally number place
 
 module _ (x : Movement) where
   abbrev answer : Member → Answer Advance
-  answer m = member_answer x.material.sheet x.change m
+  answer m = member_answer x.material.now.sheet x.change m
 
   abbrev moves : (place : ℕ) → List Member → Moves
-  moves place ms = moves_from x.material.sheet x.change place ms
+  moves place ms = moves_from x.material.now.sheet x.change place ms
 
   -- The tally of all is that of the moves, and 14 where a member isn't right.
   tallies : (ms : List Member) (force moment : ℤ) (seen : ℕ)
@@ -143,7 +143,7 @@ module _ (x : Movement) where
       by_answer (refused n) e behind =
           let place : seen + 1 ≡ suc seen = omega arith in
           subst (λ (p : ℕ). tally_all x (bare_tally n p) ms ≡ cond (all_right ms) (bare_tally n p) (bare_tally 14 0)) (sym place)
-          (waits x n seen ms (member_numbered x.material.sheet x.change m e).0)
+          (waits x n seen ms (member_numbered x.material.now.sheet x.change m e).0)
 
       by_right : (b : Bool) (a : Answer Advance) → answer m ≡ a
           → ((f k : ℤ) (n : ℕ) → tally_all x (so_far f k n) ms ≡ cond (all_right ms) (tallied f k n (moves (n + 1) ms)) (bare_tally 14 0))
@@ -153,8 +153,8 @@ module _ (x : Movement) where
       by_right false a e behind = stands x 14 ms (λ z. omega (arith, z))
 
   -- Where every member passes, each one's next is what it moves to.
-  nexts : (ms : List Member) (advances : List Advance) → all_right ms ≡ true → Pass x.material.sheet x.change ms advances
-      → next_all x ms ≡ map (λ (v : Move). v.to) (moves_of x.material.sheet x.change ms advances)
+  nexts : (ms : List Member) (advances : List Advance) → all_right ms ≡ true → Pass x.material.now.sheet x.change ms advances
+      → next_all x ms ≡ map (λ (v : Move). v.to) (moves_of x.material.now.sheet x.change ms advances)
   unfolding all_right next_of
   nexts [] advances right pass = refl
   nexts (m ∷ ms) [] right pass = absurd pass
@@ -217,23 +217,23 @@ module _ (sheet : List ℕ) (c : Change) (ms after : List Member) (x : Movement)
       let kept : after ≡ ms = moved ∙ ap (λ (y : Tally). cond (eqb y.number 0) (next_all x ms) ms) is ∙ rw (ne_eqb n 0 some) in
       λ i. section_left (reply i) (kept i)
 
-  by_moves : (v : Moves) → moves_from x.material.sheet x.change 1 ms ≡ v → all_right ms ≡ true
+  by_moves : (v : Moves) → moves_from x.material.now.sheet x.change 1 ms ≡ v → all_right ms ≡ true
       → tally_all x (bare_tally 0 0) ms ≡ tallied (pos 0) (pos 0) 0 v → section_left (reply_of t) after ≡ settled v ms
   unfolding settled_after
-  by_moves (stopped n p) e right all_are = refused_is n p (stopped_at x.material.sheet x.change 1 ms e).numbered.0 all_are
+  by_moves (stopped n p) e right all_are = refused_is n p (stopped_at x.material.now.sheet x.change 1 ms e).numbered.0 all_are
   by_moves (all vs) e right all_are =
       let force = +ℤ_idl (forces vs) in
       let moment = +ℤ_idl (moments vs) in
       let reply = ap reply_of (tally ∙ all_are) in
-      let passing = all_pass x.material.sheet x.change 1 ms e in
-      let same = same_all (sym (pass_move x.material.sheet x.change 1 ms passing.advances passing.pass) ∙ e) in
+      let passing = all_pass x.material.now.sheet x.change 1 ms e in
+      let same = same_all (sym (pass_move x.material.now.sheet x.change 1 ms passing.advances passing.pass) ∙ e) in
       let members : after ≡ map (λ (v : Move). v.to) vs = moved ∙ ap (λ (y : Tally). cond (eqb y.number 0) (next_all x ms) ms) all_are
       ∙ nexts x ms passing.advances right passing.pass ∙ ap (λ (ws : List Move). map (λ (v : Move). v.to) ws) same in
       (λ i. section_left (reply i) (members i)) ∙ (λ i. section_left (record { number = 0; place = 0; force = force i; moment = moment i }) (map (λ (v : Move). v.to) vs))
 
-  by_right : (r : Bool) → all_right ms ≡ r → tally_all x (bare_tally 0 0) ms ≡ cond r (tallied (pos 0) (pos 0) 0 (moves_from x.material.sheet x.change 1 ms)) (bare_tally 14 0)
-      → section_left (reply_of t) after ≡ section_by (cond (not r) (refused 14) (passes x.material.sheet)) x.change ms
-  by_right true right all_are = by_moves (moves_from x.material.sheet x.change 1 ms) refl right all_are
+  by_right : (r : Bool) → all_right ms ≡ r → tally_all x (bare_tally 0 0) ms ≡ cond r (tallied (pos 0) (pos 0) 0 (moves_from x.material.now.sheet x.change 1 ms)) (bare_tally 14 0)
+      → section_left (reply_of t) after ≡ section_by (cond (not r) (refused 14) (passes x.material.now.sheet)) x.change ms
+  by_right true right all_are = by_moves (moves_from x.material.now.sheet x.change 1 ms) refl right all_are
   by_right false right all_are = refused_is 14 0 (λ e. omega (arith, e)) all_are
 
   -- The lines before the first member don't apply.

@@ -51,7 +51,7 @@ unfoldable pub tally_of : Movement → Tally → Member → Tally
 tally_of x t m =
     cond (sections_own t) t
     (cond (not (member_right m)) (bare_tally 14 0)
-    (cond (eqb t.number 0) (counted t m (member_answer x.material.sheet x.change m)) t))
+    (cond (eqb t.number 0) (counted t m (member_answer x.material.now.sheet x.change m)) t))
 
 -- SPEC 15.7: the same over all members, one after another.
 unfoldable pub tally_all : Movement → Tally → List Member → Tally
@@ -65,7 +65,7 @@ next_by m (refused number) = m
 
 -- SPEC 15.7: a member after the call,
 unfoldable pub next_of : Movement → Member → Member
-next_of x m = cond (member_right m) (next_by m (member_answer x.material.sheet x.change m)) m
+next_of x m = cond (member_right m) (next_by m (member_answer x.material.now.sheet x.change m)) m
 
 -- and all of them.
 abbrev pub next_all : Movement → List Member → List Member
@@ -108,5 +108,5 @@ start_of (Err reason) = bare_tally (number_of reason) 0
 -- SPEC 15.7: what the code begins with.
 pub record Opened (sheet : List ℕ) (members : ℕ) (c : Change) (o : Result Movement Reason) : Type 0 where
   pub start : start_of o ≡ start_by (first_of (open_refusals sheet members c) (sheet_of sheet))
-  pub movement : IfOk o (λ x. (x.material.sheet ≡ sheet_of sheet) × (x.change ≡ c))
+  pub movement : IfOk o (λ x. (x.material.now.sheet ≡ sheet_of sheet) × (x.change ≡ c))
   pub ready : IfOk o (λ _. GoesOn members (bare_tally 0 0))

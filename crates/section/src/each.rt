@@ -36,11 +36,11 @@ fn pair_at(change: Change, member: Member) -> Pair
 
 // Tries a rod as a single pair does (SPEC 15.4): 5 and 6 of its state, 8 of the pair, 9 and 10 of the step. Movement and member come side by
 // side, here and below: one is lent by the call, the other is one of its list.
-fn tried<'a>(movement: &'a Movement, member: Member) -> Result<Carried<'a>, Reason>
+fn tried<'a>(movement: &Movement<'a>, member: Member) -> Result<Carried<'a>, Reason>
     requires { member_right member ≡ true }
-    ensures { trial_told result ≡ member_answer movement.now.material.sheet movement.now.change member }
+    ensures { trial_told result ≡ member_answer movement.now.material.now.sheet movement.now.change member }
 {
-    let standing = judge::judge_state(&movement.material, &member.state)?;
+    let standing = judge::judge_state(movement.material, &member.state)?;
     let pair = pair_at(movement.change, member);
     if !pair.in_range() {
         return Err(Reason::PairField);

@@ -19,10 +19,16 @@ fn call_right(members: usize, change: Change) -> bool
 }
 
 // What is decided before the first rod: the sheet's numbers, and 14 as far as the call itself has it.
-fn open(sheet: &[u8], members: usize, change: Change) -> Result<Movement, Reason>
+#[tactic(auto, using(crate::proofs::Openings::opened_refused, crate::proofs::Openings::opened_passes, crate::proofs::Openings::change_right, refusals::proofs::FirstLaws::stops_first, refusals::proofs::FirstLaws::goes_on, sheet::proofs::Passed::passed_sound), unfolding(crate::specs::Tallies::open_refusals, refusals::specs::Table::first_of))]
+fn open<'a>(
+    sheet: &[u8],
+    members: usize,
+    change: Change,
+    material: &'a mut Material,
+) -> Result<Movement<'a>, Reason>
     ensures { Opened sheet.now members change result }
 {
-    let material = Material::read(sheet)?;
+    Material::read_in(sheet, material)?;
     if !call_right(members, change) {
         return Err(Reason::SectionField);
     }
@@ -44,7 +50,8 @@ pub fn section(
         curvature: Curvature(curvature),
         temperature: Tenths(temperature),
     };
-    let movement = open(sheet, members.len(), change)?;
+    let mut material = Material::unread();
+    let movement = open(sheet, members.len(), change, &mut material)?;
     let sums = together::settle(members, &movement)?;
     Ok(Forces {
         force: sums.force,

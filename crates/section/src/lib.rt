@@ -30,8 +30,8 @@ pub struct Change {
 
 // What every rod of a call is given: the material, and the change.
 #[derive(Clone, Copy)]
-pub struct Movement {
-    pub material: Material,
+pub struct Movement<'a> {
+    pub material: &'a Material,
     pub change: Change,
     pub ghost right: { ChangeRight change },
 }

@@ -1,11 +1,12 @@
 -- What the parts of the sheet's reader answer (SPEC 8.8), by the definitions of `Sheets`, cited by this crate's contracts; definitions
 -- only, nothing is assumed.
-use Rattle.std.specs.Prelude.{ℕ, ◌-◌, ◌*◌, ◌≡◌, ◌<◌, Bool, ◌&&◌, ◌||◌, cond, List, Result, Ok, Err, replicate, eqb, leb, ltb}
+use Rattle.std.specs.Prelude.{ℕ, pos, ◌-◌, ◌*◌, ◌≡◌, ◌<◌, Bool, ◌&&◌, ◌||◌, cond, List, Result, Ok, Err, replicate, eqb, leb, ltb}
 use Rattle.refusals.specs.declared.Reason.{Reason}
 use Rattle.refusals.specs.declared.Reason.TheVariants.{SheetField}
 use Rattle.ranges.specs.Ranges.{grains}
 use Rattle.units.specs.Kinds.{tenths, magnitude, modulus, expansion}
 use Rattle.law.specs.declared.Law.{Law}
+use Rattle.law.specs.declared.Law.TheVariants.{Asymmetric}
 use Rattle.sheet.specs.declared.Counts.{Counts}
 use Rattle.sheet.specs.declared.Constants.{Constants}
 use Rattle.sheet.specs.declared.Yields.{Yields}
@@ -13,6 +14,7 @@ use Rattle.sheet.specs.declared.Header.{Header}
 use Rattle.expansion.specs.declared.Point.{Point}
 use Rattle.expansion.specs.declared.Points.{Points}
 use Rattle.expansion.specs.declared.Coefficients.{Coefficients}
+use Rattle.expansion.specs.declared.Coefficients.TheVariants.{Single}
 use Rattle.expansion.specs.Points.{most_points, no_point}
 use Rattle.sheet.specs.declared.Sheet.{Sheet}
 use Rattle.curve.specs.declared.Segment.{Segment}
@@ -53,9 +55,24 @@ no_segments = replicate most_segments flat
 abbrev pub no_points : List Point
 no_points = replicate most_points no_point
 
--- and a sheet with such sides.
+-- a sheet with such sides,
 abbrev pub Unread : Sheet → Type 0
 Unread h = (h.tension.segments ≡ no_segments) × (h.compression.segments ≡ no_segments)
+
+-- and the one that a material has before it is read: of law 3, with 0 or 1 in each field.
+abbrev pub unread_side : Side
+unread_side = record { yield_stress = magnitude grains; count = 1; segments = no_segments }
+
+abbrev pub unread_sheet : Sheet
+unread_sheet =
+    record {
+      law = Asymmetric;
+      modulus = modulus 1;
+      expansion = Single (expansion 0);
+      reference = tenths (pos 0);
+      tension = unread_side;
+      compression = unread_side;
+    }
 
 -- SPEC 8.8: law and counts, right where SPEC 3.7 allows them; E, expansion and reference temperature; yields; and all of the header.
 abbrev pub counts_in : List ℕ → Result Counts Reason

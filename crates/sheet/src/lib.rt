@@ -418,16 +418,17 @@ fn length_wrong(s: &[u8]) -> bool
     s.len() < layout::HEADER_LENGTH || s.len() != counted_length(s)
 }
 
-// A sheet before it is read.
+// A side and a sheet before they are read: of law 3, with 0 or 1 in each field. What the laws use of a sheet holds of this one, so that a
+// material can be lent.
 const NO_SIDE: Side = Side {
-    yield_stress: Magnitude(0),
-    count: 0,
+    yield_stress: Magnitude(ranges::GRAINS),
+    count: 1,
     segments: [NO_SEGMENT; curve::MOST_SEGMENTS],
 };
 
 const NO_SHEET: Sheet = Sheet {
-    law: Law::IsotropicLine,
-    modulus: Modulus(0),
+    law: Law::Asymmetric,
+    modulus: Modulus(1),
     expansion: Coefficients::Single(Expansion(0)),
     reference: Tenths(0),
     tension: NO_SIDE,

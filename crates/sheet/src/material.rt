@@ -6,7 +6,7 @@ use curve::traction::TractionCurve;
 use refusals::Reason;
 use units::{Nano, Quantity, Scaled, Tenths};
 
-// A sheet that passed (SPEC 3.10): what the laws use of it holds.
+// A sheet that passed (SPEC 3.10), or one to be read over (`unread`): what the laws use of it holds.
 #[derive(Clone, Copy)]
 pub struct Material {
     pub sheet: Sheet,
@@ -14,23 +14,46 @@ pub struct Material {
 }
 
 impl Material {
-    ghost use Rattle.std.specs.Prelude.{◌≡◌, true, ◌≤◌, nat_abs};
+    ghost use Rattle.std.specs.Prelude.{◌≡◌, true, ◌≤◌, nat_abs, IfErr};
     ghost use Rattle.refusals.specs.Table.{first_of};
     ghost use Rattle.refusals.specs.Reasons.{answer_by};
     ghost use Rattle.ranges.specs.Ranges.{temperature_right};
     ghost use Rattle.units.specs.Kinds.{nano};
     ghost use Rattle.law.specs.declared.Law.TheVariants.{Asymmetric};
     ghost use Rattle.sheet.specs.Sheets.{sheet_refusals, sheet_of};
+    ghost use Rattle.sheet.specs.ReaderAnswers.{unread_sheet};
     ghost use Rattle.sheet.specs.Thermal.{thermal_of};
 
-    // Reads any bytes: the sheet, or why it is refused. It stands alone: written out where it is called, what it needs would stay on the stack.
+    // A material to lend, which is read over.
+    #[inline(always)]
+    pub fn unread() -> Material
+        ensures { result.sheet ≡ unread_sheet }
+    {
+        Material {
+            sheet: crate::NO_SHEET,
+        }
+    }
+
+    // Reads any bytes into a material, which stays as it was where they are refused. It stands alone: written out where it is called, what it
+    // needs would stay on the stack.
     #[inline(never)]
-    pub fn read(s: &[u8]) -> Result<Material, Reason>
-        ensures { answer_by (λ (m : Material). m.sheet) result ≡ first_of (sheet_refusals s.now) (sheet_of s.now) }
+    pub fn read_in(s: &[u8], material: &mut Material) -> Result<(), Reason>
+        ensures told { answer_by (λ _. material.new.sheet) result ≡ first_of (sheet_refusals s.now) (sheet_of s.now) }
+        ensures kept { IfErr result (λ _. material.new ≡ material.old) }
     {
         let mut sheet = crate::NO_SHEET;
         crate::read(s, &mut sheet)?;
-        Ok(Material { sheet })
+        material.sheet = sheet;
+        Ok(())
+    }
+
+    // Reads any bytes: the sheet, or why it is refused.
+    pub fn read(s: &[u8]) -> Result<Material, Reason>
+        ensures { answer_by (λ (m : Material). m.sheet) result ≡ first_of (sheet_refusals s.now) (sheet_of s.now) }
+    {
+        let mut material = Material::unread();
+        Material::read_in(s, &mut material)?;
+        Ok(material)
     }
 
     // The thermal strain at a temperature (SPEC 5.1). That it is in range is asked here and below, and by `Reached::of`: no fact of a type, since

@@ -2,13 +2,13 @@ use Rattle.std.proofs.Common.{arith, ◌≡◌, sym, ap, ◌∙◌, true, false,
 use Rattle.refusals.specs.Table.{passes, first_of}
 use Rattle.ranges.specs.Ranges.{around, most_strain}
 use Rattle.law.specs.declared.Law.{Law}
-use Rattle.units.specs.declared.Grain.{Grain}
 use Rattle.units.specs.declared.Nano.{Nano}
 use Rattle.pair.proofs.PairLaws.{pair_facts}
-use Rattle.response.specs.Response.{Outcome, outcome_of, response_meaning}
+use Rattle.response.specs.Response.{outcome_of, response_meaning}
 use Rattle.rod.specs.Steps.{strain_after, outcome_after, strain_leaves, leaves_range, step_refusals, advance_by, advance_of}
 use Rattle.rod.specs.Variables.{first_right, second_right}
 use Rattle.rod.proofs.RangeFacts.{ranged}
+use Rattle.rod.proofs.PairSolved.{stress_shows}
 use Rattle.rod.proofs.StepLaws.{variables_right, same_law, stays}
 use Rattle.rod.proofs.Rod.step.Goals as goal
 use Rattle.rod.proofs.Rod.step.Goals.{After-strain_right, After-respond-response, After-leaves_range}
@@ -42,12 +42,12 @@ respond-response-requires c =
 outcome_is : (c : After-respond-response) → response_meaning c.respond-response.result ≡ outcome_after c.args.material.now.sheet c.args.self c.args.pair
 outcome_is c =
     let a = c.args in
-    c.respond-response.ensures ∙ ap (λ (g : Grain). outcome_of a.material.now.sheet a.self.first.0 a.self.second.0 g.0) c.trial_stress.ensures
+    c.respond-response.ensures ∙ ap (outcome_of a.material.now.sheet a.self.first.0 a.self.second.0) (grind arith)
 
--- and the range test goes over it.
+-- and the range test goes over it. Where nothing flowed, its stress may be taken from the trial.
 leaves_is : (c : After-leaves_range) → response_meaning c.respond-response.result ≡ outcome_after c.args.material.now.sheet c.args.self c.args.pair
     → let o = outcome_after c.args.material.now.sheet c.args.self c.args.pair in c.leaves_range.result ≡ leaves_range c.args.self o.stress o.first o.second
-leaves_is c outcome = c.leaves_range.ensures ∙ ap (λ (o : Outcome). leaves_range c.args.self o.stress o.first o.second) outcome
+leaves_is c outcome = grind (arith, stress_shows c.requires.accepted.0 c.args.pair)
 
 pub returns-then-leaves_range : goal.returns-then-leaves_range
 unfolding first_of step_refusals
@@ -57,8 +57,7 @@ returns-then-leaves_range c =
 
 pub advance-requires : goal.advance-requires
 advance-requires c =
-    let o = c.respond-response.result in
-    let kept = stays c.args.self o.stress.0 o.first.0 o.second.0 (sym c.leaves_range.ensures ∙ c.if-leaves_range.false) in
+    let kept = stays c.args.self _ _ _ (sym c.leaves_range.ensures ∙ c.if-leaves_range.false) in
     (kept.stress, kept.pairs)
 
 pub returns : goal.returns
@@ -67,4 +66,4 @@ returns c =
     let at = goal.at.returns c in
     let outcome = outcome_is at.After-respond-response in
     rw (strain_stays at.After-strain_right c.if-not-strain_right.false, sym (leaves_is at.After-leaves_range outcome) ∙ c.if-leaves_range.false)
-    (ap passes (c.advance.ensures ∙ ap (advance_by c.args.material.now.sheet c.args.self c.args.pair) outcome))
+    (ap passes (c.advance.ensures ∙ ap (advance_by c.args.material.now.sheet c.args.self c.args.pair) (grind (arith, stress_shows c.requires.accepted.0 c.args.pair))))

@@ -8,4 +8,4 @@ use Rattle.section.proofs.each.next.Goals as goal
 pub with_state-requires : goal.with_state-requires
 with_state-requires c =
     let x = c.args.movement.now in
-    subst StateFits (sym (ap (λ (r : Reached). r.rod) c.keep.ensures.reached)) (member_passed x.material.sheet x.change c.args.member x.material.sound (sym c.in-Ok.ensures)).next.fits
+    subst StateFits (sym (ap (λ (r : Reached). r.rod) c.keep.ensures.reached)) (member_passed x.material.now.sheet x.change c.args.member x.material.now.sound (sym c.in-Ok.ensures)).next.fits

@@ -1,4 +1,4 @@
-use Rattle.std.proofs.Common.{rules, ◌≡◌, ◌∙◌, true, Result, Ok, sym, ap}
+use Rattle.std.proofs.Common.{rules, arith, ◌≡◌, ◌∙◌, true, Result, Ok, sym, ap}
 use Rattle.rod.proofs.RangeFacts.{ranged}
 use Rattle.refusals.specs.Table.{passes}
 use Rattle.refusals.specs.declared.Refused.{Refused}
@@ -11,18 +11,20 @@ use Rattle.section.specs.Tallies.{added_to, sections_own, tally_of, tally_meanin
 use Rattle.section.proofs.each.tally.Goals as goal
 
 -- Where sums are counted on by a member that passes.
-counted_on : (x : Movement) (sums : Sums) (m : Member) {a : Advance} → member_right m ≡ true → member_answer x.material.sheet x.change m ≡ passes a
+counted_on : (x : Movement) (sums : Sums) (m : Member) {a : Advance} → member_right m ≡ true → member_answer x.material.now.sheet x.change m ≡ passes a
     → tally_of x (tally_meaning (Ok sums)) m ≡ added_to (tally_meaning (Ok sums)) m a.rod.stress.0
 unfolding tally_of sections_own
 counted_on x sums m right answer = rw (right, answer)
 
+-- The tally is the sums that are counted on.
 pub returns-in-Ok : goal.returns-in-Ok
 returns-in-Ok c =
     let a = c.args in
     let x = a.movement.now in
+    let sums : a.tally ≡ Ok c.in_ok-sums.sums = grind arith in
     c.added.ensures
     ∙ sym (counted_on x c.in_ok-sums.sums a.member (sym c.right.ensures ∙ c.if-not-right.false) (sym c.in-Ok.ensures))
-    ∙ ap (λ (t : Result Sums Refused). tally_of x (tally_meaning t) a.member) (sym c.in_ok-sums.was)
+    ∙ ap (λ (t : Result Sums Refused). tally_of x (tally_meaning t) a.member) (sym sums)
 
 -- The stress of a rod that stands is in its range.
 pub added-requires : goal.added-requires

@@ -21,20 +21,20 @@ pub returns-in_err-standing : goal.returns-in_err-standing
 returns-in_err-standing c =
     let a = c.args in
     let p = err_from_is_err_and c.from_residual.result c.from_residual.ensures.1 in
-    rw (p.1, p.2) (sym (state_stops a.movement.now.material.sheet a.movement.now.change a.member _ (sym c.in_err-standing.ensures)))
+    rw (p.1, p.2) (sym (state_stops a.movement.now.material.now.sheet a.movement.now.change a.member _ (sym c.in_err-standing.ensures)))
 
 pub returns-then-not-in_range : goal.returns-then-not-in_range
 returns-then-not-in_range c =
     let a = c.args in
     let out : pair_in_range (member_pair a.movement.now.change a.member) ≡ false =
     ap pair_in_range (sym c.pair_at-pair.ensures) ∙ sym c.in_range.ensures ∙ c.if-not-in_range.true in
-    sym (pair_stops a.movement.now.material.sheet a.movement.now.change a.member _ (sym c.in_ok-standing.ensures) out)
+    sym (pair_stops a.movement.now.material.now.sheet a.movement.now.change a.member _ (sym c.in_ok-standing.ensures) out)
 
 -- What trying the pair answers is the member's answer
 pub returns : goal.returns
 returns c =
     let a = c.args in
-    let h = a.movement.now.material.sheet in
+    let h = a.movement.now.material.now.sheet in
     let same = same_rod h a.member.state c.in_ok-standing.ensures in
     let sheet = same_sheet h a.member.state c.in_ok-standing.ensures in
     let is = c.pair_at-pair.ensures in

@@ -6,39 +6,28 @@ use Rattle.refusals.specs.Reasons.{answer_by}
 use Rattle.ranges.specs.Ranges.{most_pairs}
 use Rattle.pair.specs.Pairs.{list_refusals}
 use Rattle.carry.specs.Walk.{walk}
-use Rattle.judge.proofs.JudgeLaws.{sheet_stops, sheet_goes_on}
 use Rattle.tie_rod.specs.Calls.{run, count_in, pairs_in}
-use Rattle.tie_rod.proofs.CallLaws.{list_counts, material_told}
+use Rattle.tie_rod.proofs.CallLaws.{list_counts}
 use Rattle.grade.specs.Grades.{grading, grading_refusals, Verdict}
 use Rattle.grade.specs.Comparing.{compared_of, settled_by}
 use Rattle.grade.proofs.GradeLaws.{standing_stops, list_stops, list_walked, settled_by_is}
-use Rattle.grade.proofs.entry.grade_on.Goals as goal
+use Rattle.grade.proofs.entry.grade.Goals as goal
 
 -- A list that passes has not too many pairs.
 few : (pairs : List ℕ) {n : ℕ} → first_of (list_refusals (length pairs)) (count_in pairs) ≡ passes n → count_in pairs ≤ most_pairs
 few pairs listed = let counted = list_counts run (length pairs) listed in subst (λ (n : ℕ). n ≤ most_pairs) counted.0 counted.1
 
-pub returns-in_err-material-clause-result_value : goal.returns-in_err-material-clause-result_value
-returns-in_err-material-clause-result_value c =
-    λ sheet e.
-    let a = c.args in
-    let stops = standing_stops sheet a.state.now (grading a.pairs.now a.rows.now a.tolerance) (sheet_stops sheet a.state.now _ (material_told e c.in_err-material.was)) in
-    let exit = err_from_is_err_and c.from_residual.result c.from_residual.ensures.1 in
-    rw (exit.1, exit.2) (sym stops)
-
 pub returns-in_err-standing-clause-result_value : goal.returns-in_err-standing-clause-result_value
 returns-in_err-standing-clause-result_value c =
-    λ sheet e.
     let a = c.args in
-    let stops = standing_stops sheet a.state.now (grading a.pairs.now a.rows.now a.tolerance) (sym (c.in_err-standing.ensures ∙ sheet_goes_on sheet a.state.now (material_told e c.in_ok-material.was))) in
-    let exit = err_from_is_err_and c.from_residual-in_err-standing.result c.from_residual-in_err-standing.ensures.1 in
+    let stops = standing_stops a.sheet.now a.state.now (grading a.pairs.now a.rows.now a.tolerance) (sym c.in_err-standing.ensures) in
+    let exit = err_from_is_err_and c.from_residual.result c.from_residual.ensures.1 in
     rw (exit.1, exit.2) (sym stops)
 
 pub returns-in_err-count-clause-result_value : goal.returns-in_err-count-clause-result_value
 returns-in_err-count-clause-result_value c =
-    λ sheet e.
     let a = c.args in
-    let stops = list_stops sheet a.state.now (grading a.pairs.now a.rows.now a.tolerance) (sym (c.in_ok-standing.ensures ∙ sheet_goes_on sheet a.state.now (material_told e c.in_ok-material.was))) (sym c.in_err-count.ensures) in
+    let stops = list_stops a.sheet.now a.state.now (grading a.pairs.now a.rows.now a.tolerance) (sym c.in_ok-standing.ensures) (sym c.in_err-count.ensures) in
     let exit = err_from_is_err_and c.from_residual-in_err-count.result c.from_residual-in_err-count.ensures.1 in
     rw (exit.1, exit.2) (sym stops)
 
@@ -47,7 +36,6 @@ invariant_of-table c = record { few = few c.args.pairs.now (sym c.in_ok-count.en
 
 pub returns-clause-result_value : goal.returns-clause-result_value
 returns-clause-result_value c =
-    λ sheet e.
     let a = c.args in
     let g = grading a.pairs.now a.rows.now a.tolerance in
     let walked = walk c.in_ok-standing.standing.material.now.sheet c.in_ok-standing.standing.reached.rod (pairs_in a.pairs.now) in
@@ -57,4 +45,4 @@ returns-clause-result_value c =
     let decided : answer_by (λ _. a.tolerance) own ≡ first_of (grading_refusals g) a.tolerance =
     subst (λ (d : ℤ). answer_by (λ _. d) own ≡ first_of (grading_refusals (grading a.pairs.now a.rows.now d)) d) same c.check-own.ensures in
     c.verdict.ensures.result_value ∙ ap (λ (v : Verdict). settled_by v own) told ∙ settled_by_is g walked own decided
-    ∙ sym (list_walked sheet a.state.now g (sym (c.in_ok-standing.ensures ∙ sheet_goes_on sheet a.state.now (material_told e c.in_ok-material.was))) (sym c.in_ok-count.ensures))
+    ∙ sym (list_walked a.sheet.now a.state.now g (sym c.in_ok-standing.ensures) (sym c.in_ok-count.ensures))
