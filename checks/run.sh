@@ -48,6 +48,7 @@ if [ -n "$others" ]; then
     echo "$others"
     exit 1
 fi
+# Those of sections and of gradings need nothing at all.
 own=$(nm -u "$sections" "$gradings" | sed -n 's/^ *[A-Za-z] //p' | sort -u)
 if [ -n "$own" ]; then
     echo "failed: the archives of sections and of gradings need something of C, and needed nothing:"

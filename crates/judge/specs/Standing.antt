@@ -29,10 +29,10 @@ holder_refusals h state = state_refusals state ++ against_refusals h (state_of s
 unfoldable pub standing_refusals : (sheet state : List ℕ) → List Refusal
 standing_refusals sheet state = sheet_refusals sheet ++ holder_refusals (sheet_of sheet) state
 
--- SPEC 8.8: what judging a state answers: the number, or the sheet and the rod that passed,
+-- SPEC 8.8: what judging answers: the number, or the sheet and the rod that passed,
 abbrev pub standing_meaning : Result Standing Reason → Answer Ready
 standing_meaning result = answer_by (λ (s : Standing). record { sheet = s.material.now.sheet; rod = s.reached.rod }) result
 
--- and what judging a sheet and a state together does.
+-- and what it answers by value.
 abbrev pub judged_meaning : Result Judged Reason → Answer Ready
 judged_meaning result = answer_by (λ (j : Judged). record { sheet = j.material.sheet; rod = j.reached.rod }) result
