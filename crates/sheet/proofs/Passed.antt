@@ -17,7 +17,7 @@ use Rattle.law.specs.declared.Law.{Law}
 use Rattle.law.specs.declared.Law.TheVariants.{Kinematic, Asymmetric}
 use Rattle.curve.specs.declared.Segment.{Segment}
 use Rattle.expansion.specs.declared.Point.{Point}
-use Rattle.expansion.specs.Points.{most_points, no_point, no_place, point_right, temperatures_rise, count_of, PointsUsable, Usable}
+use Rattle.expansion.specs.Points.{most_points, no_point, no_place, point_right, temperatures_rise, count_of, places_of, PointsUsable, Usable}
 use Rattle.curve.specs.Sides.{most_segments, flat, length_at, tangent_of}
 use Rattle.bits.specs.Field.{within}
 use Rattle.sheet.specs.declared.Sheet.{Sheet}
@@ -154,6 +154,12 @@ coefficients_usable (suc n) single points most usable =
 pub held_few : (n single : ℕ) (at : ℕ → Point) → n ≤ most_points → count_of (coefficients_by n single (listed at 0 n)) ≤ most_points
 held_few zero single at few = omega arith
 held_few (suc n) single at few = few
+
+-- Its points have their places.
+pub held_in_places : (n single : ℕ) (at : ℕ → Point) → n ≤ most_points
+    → count_of (coefficients_by n single (listed at 0 n)) ≤ length (places_of (coefficients_by n single (listed at 0 n)))
+held_in_places zero single at few = omega arith
+held_in_places (suc n) single at few = omega (arith, few, placed_all most_points no_point at 0 (suc n) few)
 
 one_of_kinematic : (law : Law) (n : ℕ) → within 1 (most_tension law) n ≡ true → law ≡ Kinematic → n ≡ 1
 one_of_kinematic law n e k =
